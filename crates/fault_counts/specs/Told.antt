@@ -1,0 +1,24 @@
+-- The bytes of an object of the outside, or None where it doesn't tell them. Each word is an equation or a
+-- fact about what is told, so that what tells goes on telling, and what doesn't never begins to.
+use Rattle.std.specs.Prelude.{◌≡◌, ℕ, ◌≤◌, List, [], ◌++◌, length, take, Option, Some, None, IfSome}
+use Rattle.std.specs.Option.{option_map}
+
+-- what is told of an object
+abbrev pub Told : Type 0
+Told = Option (List ℕ)
+
+-- these bytes were taken: what was left is they and what is left now
+abbrev pub Takes : Told → Told → List ℕ → Type 0
+Takes old new bytes = old ≡ option_map (λ rest. bytes ++ rest) new
+
+-- there is nothing left
+abbrev pub IsAtEnd : Told → Type 0
+IsAtEnd left = IfSome left (λ rest. rest ≡ [])
+
+-- these bytes were put: what is held is what was held and they
+abbrev pub Puts : Told → Told → List ℕ → Type 0
+Puts old new bytes = new ≡ option_map (λ held. held ++ bytes) old
+
+-- a front of these bytes was put
+abbrev pub PutsFront : Told → Told → List ℕ → Type 0
+PutsFront old new bytes = (n : ℕ) × (n ≤ length bytes) × Puts old new (take n bytes)

@@ -1,0 +1,7 @@
+pub mod Octree
+pub mod Ascending
+pub mod Triangles
+pub mod Mesh
+pub mod Edits
+pub mod Work
+pub mod Reading

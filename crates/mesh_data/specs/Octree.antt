@@ -1,0 +1,55 @@
+-- The octree over the cube of the grid, whose coordinates are -32768 to 32767 along each axis.
+use Rattle.std.specs.Prelude.{ℕ, ◌≤◌, ◌<◌, ◌+◌, ◌-◌, ◌/◌, ◌^◌, Bool, ◌&&◌, ◌==◌, nat_le, ℤ, pos, negsuc, List, [], ◌∷◌, if◌then◌else◌, slice_get}
+use Rattle.std.specs.List.{All, list_any, filter_map}
+use Rattle.mesh_data.specs.declared.geometry.Point.{Point}
+use Rattle.mesh_data.specs.declared.geometry.Cell.{Cell}
+
+-- how far a coordinate lies above the low end of its axis
+unfoldable pub from_low : ℤ → ℕ
+from_low (pos n) = n + 32768
+from_low (negsuc n) = 32767 - n
+
+-- cells that an octree can have
+abbrev pub AreCells : List Cell → Type 0
+AreCells cells = All (λ c. c.depth ≤ 6) cells
+
+-- leaves among so many
+abbrev pub AreLeaves : ℕ → List ℕ → Type 0
+AreLeaves n leaves = All (λ leaf. leaf < n) leaves
+
+-- the place, among the 2^depth parts of an axis, of the part that has the coordinate
+unfoldable pub place_at : ℕ → ℤ → ℕ
+place_at depth n = from_low n / 2 ^ (16 - depth)
+
+-- the point lies in the cell
+abbrev pub cell_holds : Cell → Point → Bool
+cell_holds c p = (place_at c.depth p.x == c.x) && (place_at c.depth p.y == c.y) && (place_at c.depth p.z == c.z)
+
+-- the part of an axis at this place has a coordinate from low to high
+unfoldable pub is_between : ℕ → ℤ → ℤ → ℕ → Bool
+is_between depth low high place = nat_le (place_at depth low) place && nat_le place (place_at depth high)
+
+-- the cell has a point of the closed box
+abbrev pub cell_meets : Point → Point → Cell → Bool
+cell_meets low high c = is_between c.depth low.x high.x c.x && is_between c.depth low.y high.y c.y && is_between c.depth low.z high.z c.z
+
+-- the places, counted from n, of the cells that pass the test
+abbrev pub leaves_from : ℕ → (Cell → Bool) → List Cell → List ℕ
+leaves_from n test [] = []
+leaves_from n test (c ∷ cs) = if test c then n ∷ leaves_from (n + 1) test cs else leaves_from (n + 1) test cs
+
+-- the core of a closed box: the leaves whose cells meet it, ascending
+abbrev pub core_of : List Cell → Point → Point → List ℕ
+core_of cells low high = leaves_from 0 (cell_meets low high) cells
+
+-- the cells of a core
+abbrev pub area_of : List Cell → List ℕ → List Cell
+area_of cells core = filter_map (slice_get cells) core
+
+-- the point lies in one of these cells
+abbrev pub is_inside : List Cell → Point → Bool
+is_inside area p = list_any (λ c. cell_holds c p) area
+
+-- the whole cube, as an octree of one leaf
+abbrev pub root_cell : Cell
+root_cell = record { depth = 0; x = 0; y = 0; z = 0 }

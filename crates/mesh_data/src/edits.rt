@@ -1,0 +1,100 @@
+use crate::geometry::Point;
+use crate::list::{Copied, List};
+use crate::names::{Lane, Name};
+use crate::sets::LeafSet;
+use std::alloc::{AllocError, Global};
+
+/// A change that is asked of a mesh.
+#[derive(Clone, Copy, Debug, PartialEq, Eq)]
+pub enum Edit {
+    /// Puts a vertex at another point.
+    Move { v: Name, to: Point },
+}
+
+/// The edits of a task, in their order.
+pub type Edits = List<Edit>;
+
+/// What an edit answered.
+#[derive(Clone, Copy, Debug, PartialEq, Eq)]
+pub enum Reply {
+    /// This vertex isn't in the mesh, or its home lies outside the core.
+    Unheld(Name),
+    /// This vertex has a neighbour that isn't held.
+    Frozen(Name),
+    /// The new point's home lies outside the core.
+    Outside,
+    /// The edit was made.
+    Done,
+}
+
+/// The replies to the edits of a task, in their order.
+pub type Replies = List<Reply>;
+
+/// Edits on one box of the mesh. `low` is at most `high` along each axis.
+#[derive(Debug, Drop)]
+pub struct Task {
+    pub lane: Lane,
+    /// The number of the lane's tasks before it.
+    pub number: u32,
+    pub low: Point,
+    pub high: Point,
+    pub edits: Edits,
+}
+
+/// A list of tasks.
+pub type Tasks = List<Task>;
+
+/// A task that was done, with what its edits answered.
+#[derive(Debug, Drop)]
+pub struct Entry {
+    pub task: Task,
+    /// The core had more leaves than a task may check out, and nothing was changed.
+    pub wide: bool,
+    pub replies: Replies,
+    /// The leaves of the core, none where the task was wide.
+    pub core: LeafSet,
+}
+
+/// A list of entries of a journal.
+pub type Entries = List<Entry>;
+
+/// The tasks of a script, in their order.
+#[derive(Debug, Drop)]
+pub struct Script {
+    pub tasks: Tasks,
+}
+
+impl Copied for Edit {
+    fn copy(&self, alloc: Global) -> Result<Edit, AllocError> {
+        Ok(*self)
+    }
+}
+
+impl Copied for Reply {
+    fn copy(&self, alloc: Global) -> Result<Reply, AllocError> {
+        Ok(*self)
+    }
+}
+
+impl Copied for Task {
+    fn copy(&self, alloc: Global) -> Result<Task, AllocError> {
+        Ok(Task {
+            lane: self.lane,
+            number: self.number,
+            low: self.low,
+            high: self.high,
+            edits: self.edits.copy(alloc)?,
+        })
+    }
+}
+
+impl Copied for Entry {
+    fn copy(&self, alloc: Global) -> Result<Entry, AllocError> {
+        Ok(Entry {
+            task: self.task.copy(alloc)?,
+            wide: self.wide,
+            replies: self.replies.copy(alloc)?,
+            core: self.core.copy(alloc)?,
+        })
+    }
+}

@@ -1,0 +1,117 @@
+ghost use Rattle.std.specs.Prelude.{◌≡◌, ◌≤◌, ℕ, Option, Some, Err, ◌⊎◌};
+ghost use Rattle.fault_counts.specs.Counts.{Rose};
+ghost use Rattle.mesh_data.specs.Reading.{Reading, Given, Steps, Reads};
+
+use crate::geometry::{Point, Tri};
+use std::alloc::{AllocError, AllocFailed};
+
+/// A part of a mesh, in the order of its file: the counts, then the vertices, then the faces.
+#[derive(Clone, Copy, Debug, PartialEq, Eq)]
+pub enum Item {
+    /// The number of vertices and of faces to come.
+    Counts { v: u32, f: u32 },
+    Vertex(Point),
+    /// A face with its names as the file has them.
+    Face(Tri),
+}
+
+/// What passed its limit.
+#[derive(Clone, Copy, Debug, PartialEq, Eq)]
+pub enum What {
+    Vertices,
+    Faces,
+    MeshBytes,
+    ScriptBytes,
+    Tasks,
+    Edits,
+}
+
+/// What is wrong with a mesh's text. Vertices and faces are numbered from 0.
+#[derive(Clone, Copy, Debug, PartialEq, Eq)]
+pub enum MeshWhy {
+    /// The first word isn't `OFF`.
+    Head,
+    /// A line has too few words.
+    Words,
+    /// A word that must be a number isn't one, or a count is above 2^64 - 1.
+    Number,
+    /// A coordinate lies outside the grid.
+    OutOfRange { vertex: u32 },
+    /// A face hasn't three indices.
+    NotTriangle { face: u32 },
+    /// An index is negative or at least the number of vertices.
+    BadIndex { face: u32 },
+    /// Two indices of a face are equal.
+    Repeated { face: u32 },
+    /// The text ends before the last face is read.
+    Cut,
+}
+
+/// Why a mesh can't be read.
+#[derive(Clone, Copy, Debug, PartialEq, Eq)]
+pub enum MeshFault {
+    /// The source failed.
+    Read,
+    /// `at` is the number of bytes before the line in which the fault stands, and for a cut that of the source.
+    Text { at: u64, why: MeshWhy },
+    TooMany { what: What, count: u64 },
+    Memory,
+}
+
+impl From<AllocError> for MeshFault {
+    ghost use Rattle.std.specs.Prelude.{◌≡◌};
+    ghost use Rattle.mesh_data.specs.declared.items.MeshFault.TheVariants.{Memory};
+
+    ghost from_gives = { λ _ fault. fault ≡ Memory };
+
+    fn from(_: AllocError) -> MeshFault {
+        MeshFault::Memory
+    }
+}
+
+impl<T: Drop> From<AllocFailed<T>> for MeshFault {
+    ghost use Rattle.std.specs.Prelude.{◌≡◌};
+    ghost use Rattle.mesh_data.specs.declared.items.MeshFault.TheVariants.{Memory};
+
+    ghost from_gives = { λ _ fault. fault ≡ Memory };
+
+    fn from(_: AllocFailed<T>) -> MeshFault {
+        MeshFault::Memory
+    }
+}
+
+/// What is wrong with a line of a script, in the order in which a line is looked at.
+#[derive(Clone, Copy, Debug, PartialEq, Eq)]
+pub enum ScriptWhy {
+    /// The first word is none of the script's.
+    Word,
+    /// The line has too few or too many words.
+    Words,
+    /// A number isn't in its form or its range.
+    Number,
+    /// The lane is above 63.
+    Lane,
+    /// The box's low corner is above its high one along some axis.
+    Box,
+    /// An edit stands before the first task.
+    NoTask,
+}
+
+/// The parts of a mesh, one after another.
+pub trait Items {
+    /// What was given so far.
+    ghost given: { Self → Given };
+
+    /// The items to come and the fault behind them, or none where they aren't told.
+    ghost reading: { Self → Option Reading };
+
+    /// How often what it reads from has failed.
+    ghost faults: { Self → ℕ };
+
+    /// The next item, or None behind the last face. After a fault each later call answers that fault.
+    fn next(&mut self) -> Result<Option<Item>, MeshFault>
+        ensures given { Steps (given self.old) result (given self.new) }
+        ensures told { Reads (reading self.old) result (reading self.new) }
+        ensures kept { faults self.old ≤ faults self.new }
+        ensures read { result ≡ Err MeshFault.Read → ((given self.old).fault ≡ Some MeshFault.Read) ⊎ Rose (faults self.old) (faults self.new) };
+}

@@ -1,0 +1,22 @@
+//! The data of a triangle mesh and of its edits, and the definitions that contracts cite.
+#![tactic(auto)]
+
+mod axis;
+mod edits;
+mod geometry;
+mod items;
+mod list;
+mod names;
+mod sets;
+mod words;
+
+pub use edits::{Edit, Edits, Entries, Entry, Replies, Reply, Script, Task, Tasks};
+pub use geometry::{Cell, Cells, Edge, Edges, Point, Points, Tri, Tris, Vertex};
+pub use items::{Item, Items, MeshFault, MeshWhy, ScriptWhy, What};
+pub use list::{Bytes, Copied, List};
+pub use names::{Lane, LeafNo, Name};
+pub use sets::{LeafSet, NameSet};
+pub use words::{CommandWord, CommandWords};
+
+#[cfg(test)]
+mod tests;

@@ -1,0 +1,23 @@
+use Rattle.std.proofs.Common.{◌∙◌, sym, arith}
+use Rattle.std.proofs.lemmas.Bool.Decides.{nat_tests}
+use Rattle.oemm_lines.proofs.LineLaws.{filled_from-blank, filled_from-filled, filled_from-none}
+use Rattle.oemm_lines.proofs.lines.next_filled.Goals as goal
+
+pub returns-then-has_words-clause-line : goal.returns-then-has_words-clause-line
+returns-then-has_words-clause-line c =
+    c.loop-rest.invariant.lines
+    ∙ filled_from-filled _ _ _ _ _ _ c.first_line.ensures.first (sym c.has_words.ensures ∙ c.if-has_words.true)
+
+pub loop-rest-preserved : goal.loop-rest-preserved
+loop-rest-preserved c = record {
+  lines = c.loop-rest.invariant.lines
+      ∙ filled_from-blank _ _ _ _ _ _ c.first_line.ensures.first (sym c.has_words.ensures ∙ c.if-has_words.false);
+  place = omega arith;
+  count = omega arith;
+  behind = omega arith;
+  later = omega arith;
+}
+
+pub returns-clause-none : goal.returns-clause-none
+returns-clause-none c =
+    c.loop-rest.invariant.lines ∙ filled_from-none _ _ _ (grind (arith, nat_tests))

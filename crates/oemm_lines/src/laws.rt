@@ -1,0 +1,50 @@
+ghost use Rattle.std.specs.Prelude.{◌≡◌, ◌≢◌, ℕ, ◌+◌, ◌^◌, ◌<◌, List, [], ◌∷◌, ◌++◌, length, true, false, Some, ℤ, nat_abs, All};
+ghost use Rattle.std.specs.Fmt.{decimal, signed_decimal};
+ghost use Rattle.oemm_lines.specs.Words.{is_blank, words_of};
+ghost use Rattle.oemm_lines.specs.Lines.{raw_lines, lines_from, filled_from, without_return};
+ghost use Rattle.oemm_lines.specs.Numbers.{whole_of, integer_of};
+
+/// How a text falls into lines, by the bytes in front of its first line feed.
+pub fn line_laws()
+    ensures ended { (body rest : List ℕ) → All (λ c. c ≢ 10) body →
+        raw_lines (body ++ 10 ∷ rest) ≡ record { text = without_return body; size = length body + 1 } ∷ raw_lines rest }
+    ensures last { (body : List ℕ) → body ≢ [] → All (λ c. c ≢ 10) body →
+        raw_lines body ≡ record { text = body; size = length body } ∷ [] }
+    ensures none { raw_lines [] ≡ [] }
+{}
+
+/// The same of the lines with their places, and of those that have words.
+pub fn placed_line_laws()
+    ensures ended { (at number : ℕ) (body rest : List ℕ) → All (λ c. c ≢ 10) body →
+        lines_from at number (body ++ 10 ∷ rest)
+        ≡ record { at = at; number = number; words = words_of (without_return body) }
+        ∷ lines_from (at + (length body + 1)) (number + 1) rest }
+    ensures last { (at number : ℕ) (body : List ℕ) → body ≢ [] → All (λ c. c ≢ 10) body →
+        lines_from at number body ≡ record { at = at; number = number; words = words_of body } ∷ [] }
+    ensures none { (at number : ℕ) → lines_from at number [] ≡ [] }
+    ensures filled { (at number : ℕ) (body rest : List ℕ) → All (λ c. c ≢ 10) body → words_of (without_return body) ≢ [] →
+        filled_from at number (body ++ 10 ∷ rest)
+        ≡ record { at = at; number = number; words = words_of (without_return body) }
+        ∷ filled_from (at + (length body + 1)) (number + 1) rest }
+    ensures passed { (at number : ℕ) (body rest : List ℕ) → All (λ c. c ≢ 10) body → words_of (without_return body) ≡ [] →
+        filled_from at number (body ++ 10 ∷ rest) ≡ filled_from (at + (length body + 1)) (number + 1) rest }
+    ensures filled_last { (at number : ℕ) (body : List ℕ) → All (λ c. c ≢ 10) body → words_of body ≢ [] →
+        filled_from at number body ≡ record { at = at; number = number; words = words_of body } ∷ [] }
+    ensures passed_last { (at number : ℕ) (body : List ℕ) → All (λ c. c ≢ 10) body → words_of body ≡ [] →
+        filled_from at number body ≡ [] }
+{}
+
+/// How a line falls into words.
+pub fn word_laws()
+    ensures first { (word rest : List ℕ) (c : ℕ) → word ≢ [] → All (λ b. is_blank b ≡ false) word → is_blank c ≡ true →
+        words_of (word ++ c ∷ rest) ≡ word ∷ words_of rest }
+    ensures last { (word : List ℕ) → word ≢ [] → All (λ b. is_blank b ≡ false) word → words_of word ≡ word ∷ [] }
+    ensures blank { (c : ℕ) (rest : List ℕ) → is_blank c ≡ true → words_of (c ∷ rest) ≡ words_of rest }
+    ensures none { words_of [] ≡ [] }
+{}
+
+/// The decimal text of a number writes that number.
+pub fn number_laws()
+    ensures whole { (n : ℕ) → n < 10 ^ 64 → whole_of (decimal n) ≡ Some n }
+    ensures integer { (z : ℤ) → nat_abs z < 10 ^ 64 → integer_of (signed_decimal z) ≡ Some z }
+{}
