@@ -5,3 +5,4 @@ pub mod Mesh
 pub mod Edits
 pub mod Work
 pub mod Reading
+pub mod Texts

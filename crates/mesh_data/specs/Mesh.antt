@@ -7,6 +7,7 @@ use Rattle.std.specs.FinMap as map
 use Rattle.std.specs.FinSet as set
 use Rattle.mesh_data.specs.declared.geometry.Point.{Point}
 use Rattle.mesh_data.specs.declared.geometry.Vertex.{Vertex}
+pub use Rattle.mesh_data.specs.declared.geometry.Soup.{Soup}
 use Rattle.mesh_data.specs.declared.geometry.Tri.{Tri}
 use Rattle.mesh_data.specs.declared.geometry.Edge.{Edge}
 use Rattle.mesh_data.specs.Ascending.{in_order}
@@ -15,11 +16,6 @@ use Rattle.mesh_data.specs.Triangles.{tri_cmp, turned, undirected_edges, border_
 pub record Mesh : Type 0 where
   pub vertices : map.FinMap nat_cmp Vertex
   pub tris : List Tri
-
--- the points and faces of a file
-pub record Soup : Type 0 where
-  pub points : List Point
-  pub faces : List Tri
 
 -- vertices named by their places, counted from n
 abbrev pub named_from : ℕ → List Point → List (ℕ × Vertex)

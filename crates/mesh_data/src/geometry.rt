@@ -43,6 +43,13 @@ impl Copied for Tri {
     }
 }
 
+/// The points and faces of a file. A face has three places of points.
+#[derive(Debug, Drop)]
+pub struct Soup {
+    pub points: Points,
+    pub faces: Tris,
+}
+
 /// A directed edge.
 #[derive(Clone, Copy, Debug, PartialEq, Eq, PartialOrd, Ord)]
 pub struct Edge {

@@ -11,7 +11,7 @@ mod sets;
 mod words;
 
 pub use edits::{Edit, Edits, Entries, Entry, Replies, Reply, Script, Task, Tasks};
-pub use geometry::{Cell, Cells, Edge, Edges, Point, Points, Tri, Tris, Vertex};
+pub use geometry::{Cell, Cells, Edge, Edges, Point, Points, Soup, Tri, Tris, Vertex};
 pub use items::{Item, Items, MeshFault, MeshWhy, ScriptWhy, What};
 pub use list::{Bytes, Copied, List};
 pub use names::{Lane, LeafNo, Name};

@@ -1,6 +1,6 @@
-use Rattle.std.proofs.Common.{◌≡◌, ℕ, suc, ◌+◌, ◌-◌, ◌<◌, Bool, true, false, if◌then◌else◌, ◌&&◌, ◌≢◌, ◌==◌, List, [], ◌∷◌, ◌++◌, length, get_or, take, drop, refl, ap, sym, ◌∙◌, arith, eq-eqb, ne_eqb, drop-cons, add-one, length-drop}
+use Rattle.std.proofs.Common.{◌≡◌, ℕ, suc, ◌+◌, ◌-◌, ◌<◌, ◌≤◌, Bool, true, false, if◌then◌else◌, ◌&&◌, ◌≢◌, ◌==◌, List, [], ◌∷◌, ◌++◌, length, get_or, take, drop, refl, ap, sym, ◌∙◌, arith, eq-eqb, ne_eqb, drop-cons, add-one, length-drop}
 use Rattle.std.proofs.lemmas.List.Elements.{All-from_get_or, recursion_from_All}
-use Rattle.std.proofs.lemmas.List.{get_or-take, length-take-le, take-append-drop}
+use Rattle.std.proofs.lemmas.List.{get_or-take, length-take-le, take-append-drop, drop-drop}
 use Rattle.std.specs.List.{AllByRecursion, All}
 use Rattle.oemm_lines.specs.Words.{words_of}
 use Rattle.oemm_lines.specs.Lines.{RawLine, raw_lines, lines_with, without_return, placed, lines_from, filled_from, has_word}
@@ -167,3 +167,9 @@ passed_last at number [] other none = filled_from-none at number [] refl
 passed_last at number (c ∷ cs) other none =
     filled_from-blank at number (c ∷ cs) [] (c ∷ cs) (length (c ∷ cs)) (last (c ∷ cs) (λ e. cc) other ∙ ap (λ ls. record { text = c ∷ cs; size = length (c ∷ cs) } ∷ ls) (sym raw_lines-none)) (ap has_word none)
     ∙ filled_from-none _ _ [] refl
+
+-- the end of an end of the bytes
+pub drop-further : (bytes rest next : List ℕ) (at place : ℕ) → rest ≡ drop (place - at) bytes → next ≡ drop (length rest - length next) rest → at ≤ place → next ≡ drop (place + (length rest - length next) - at) bytes
+drop-further bytes rest next at place first second behind =
+    let total : (place - at) + (length rest - length next) ≡ place + (length rest - length next) - at = omega arith in
+    second ∙ ap (drop (length rest - length next)) first ∙ drop-drop _ _ bytes ∙ ap (λ n. drop n bytes) total

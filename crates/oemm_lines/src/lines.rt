@@ -1,4 +1,4 @@
-ghost use Rattle.std.specs.Prelude.{◌≡◌, ◌≢◌, ℕ, ◌+◌, ◌-◌, ◌^◌, ◌<◌, ◌≤◌, [], ◌∷◌, length, slice_index, IfNone, IfSome};
+ghost use Rattle.std.specs.Prelude.{◌≡◌, ◌≢◌, ℕ, ◌+◌, ◌-◌, ◌^◌, ◌<◌, ◌≤◌, [], ◌∷◌, length, drop, slice_index, IfNone, IfSome};
 ghost use Rattle.oemm_lines.specs.Words.{words_of};
 ghost use Rattle.oemm_lines.specs.Lines.{raw_lines, filled_from, without_return, has_word};
 
@@ -52,6 +52,7 @@ fn first_line(bytes: &[u8]) -> (&[u8], &[u8])
     ensures first { raw_lines bytes.now
         ≡ record { text = result.0.now; size = length bytes.now - length result.1.now } ∷ raw_lines result.1.now }
     ensures apart { length result.0.now + length result.1.now ≤ length bytes.now }
+    ensures suffix { result.1.now ≡ drop (length bytes.now - length result.1.now) bytes.now }
     ensures shorter { length result.1.now < length bytes.now }
 {
     let end = before_line_feed(bytes);
@@ -79,6 +80,7 @@ pub fn next_filled(bytes: &[u8], at: u64, number: u64) -> Option<TextLine<'_>>
         ≡ record { at = l.at; number = l.number; words = words_of l.text.now } ∷ filled_from l.next_at l.next_number l.rest.now) }
     ensures word { IfSome result (λ l. words_of l.text.now ≢ []) }
     ensures shorter { IfSome result (λ l. length l.rest.now < length bytes.now) }
+    ensures suffix { IfSome result (λ l. l.rest.now ≡ drop (l.next_at - at) bytes.now) }
     ensures next_place { IfSome result (λ l. l.next_at + length l.rest.now ≡ at + length bytes.now) }
     ensures next_count { IfSome result (λ l. l.next_number + length l.rest.now ≤ number + length bytes.now) }
     ensures places { IfSome result (λ l. (at ≤ l.at) × (l.at + length l.text.now ≤ l.next_at) × (l.at < l.next_at)) }

@@ -1,4 +1,4 @@
-use Rattle.std.proofs.Common.{◌≡◌, ◌+◌, ◌≤◌, length}
+use Rattle.std.proofs.Common.{◌≡◌, ◌+◌, ◌-◌, ◌≤◌, length, drop}
 use Rattle.oemm_lines.specs.Lines.{filled_from}
 use Rattle.oemm_lines.proofs.lines.next_filled.Given as goal
 
@@ -8,6 +8,7 @@ invariant-loop-rest l = record {
   place : l.place + length l.rest ≡ l.at + length l.bytes;
   count : l.count + length l.rest ≤ l.number + length l.bytes;
   behind : l.at ≤ l.place;
+  suffix : l.rest ≡ drop (l.place - l.at) l.bytes;
   later : l.number ≤ l.count;
 }
 

@@ -1,0 +1,61 @@
+-- The journal's text: for each entry its head line, then its edits' lines, each with its reply's lines below it.
+use Rattle.std.specs.Prelude.{ℕ, ◌+◌, List, [], ◌∷◌, ◌++◌, codes, if◌then◌else◌, Option, Some, None}
+use Rattle.std.specs.List.{flat_map}
+use Rattle.std.specs.Fmt.{decimal, signed_decimal}
+use Rattle.mesh_data.specs.Texts.{line}
+use Rattle.mesh_data.specs.declared.edits.Edit.{Edit}
+use Rattle.mesh_data.specs.declared.edits.Edit.TheVariants.{Move}
+use Rattle.mesh_data.specs.declared.edits.Reply.{Reply}
+use Rattle.mesh_data.specs.declared.edits.Reply.TheVariants.{Unheld, Frozen, Outside, Done}
+use Rattle.mesh_data.specs.declared.edits.Entry.{Entry}
+
+-- an edit's line, as a script has it
+abbrev pub edit_line : Edit → List ℕ
+edit_line (Move v to) =
+    line (codes "move" ∷ decimal v ∷ signed_decimal to.x ∷ signed_decimal to.y ∷ signed_decimal to.z ∷ [])
+
+-- a reply's lines
+abbrev pub reply_lines : Reply → List (List ℕ)
+reply_lines (Unheld v) = line (codes "unheld" ∷ decimal v ∷ []) ∷ []
+reply_lines (Frozen v) = line (codes "frozen" ∷ decimal v ∷ []) ∷ []
+reply_lines Outside = line (codes "outside" ∷ []) ∷ []
+reply_lines Done = line (codes "done" ∷ []) ∷ []
+
+-- the lines, each behind two spaces
+abbrev pub indented : List (List ℕ) → List ℕ
+indented lines = flat_map (λ l. 32 ∷ 32 ∷ l) lines
+
+-- an edit's line, and its reply's lines if there is a reply
+abbrev pub answered_edit : Edit → Option Reply → List ℕ
+answered_edit e None = edit_line e
+answered_edit e (Some r) = edit_line e ++ indented (reply_lines r)
+
+-- Each edit with the reply at its place. An edit without a reply stands alone, and a reply without an edit isn't told.
+abbrev pub answered_edits : List Edit → List Reply → List ℕ
+answered_edits [] rs = []
+answered_edits (e ∷ es) [] = answered_edit e None ++ answered_edits es []
+answered_edits (e ∷ es) (r ∷ rs) = answered_edit e (Some r) ++ answered_edits es rs
+
+-- the last word of the head line of a wide entry
+abbrev pub wide_word : Entry → List (List ℕ)
+wide_word e = if e.wide then codes "wide" ∷ [] else []
+
+-- the head line of the entry with this number: its task's lane, number and box
+abbrev pub head_line : ℕ → Entry → List ℕ
+head_line number e =
+    line (codes "commit" ∷ decimal number ∷ codes "lane" ∷ decimal e.task.lane ∷ codes "number" ∷ decimal e.task.number
+    ∷ codes "box" ∷ signed_decimal e.task.low.x ∷ signed_decimal e.task.low.y ∷ signed_decimal e.task.low.z
+    ∷ signed_decimal e.task.high.x ∷ signed_decimal e.task.high.y ∷ signed_decimal e.task.high.z ∷ wide_word e)
+
+-- the replies that are told, none of a wide entry
+abbrev pub told_replies : Entry → List Reply
+told_replies e = if e.wide then [] else e.replies
+
+-- the entry with this number
+abbrev pub entry_text : ℕ → Entry → List ℕ
+entry_text number e = head_line number e ++ answered_edits e.task.edits (told_replies e)
+
+-- the entries, numbered on from the first number
+abbrev pub journal_text : ℕ → List Entry → List ℕ
+journal_text number [] = []
+journal_text number (e ∷ es) = entry_text number e ++ journal_text (number + 1) es

@@ -1,0 +1,17 @@
+ghost use Rattle.std.specs.Prelude.{◌≡◌, ◌==◌, IfOk, filter};
+
+use mesh_data::{Copied, Entries, Lane};
+use std::alloc::{AllocError, Global};
+
+/// The entries of a lane, in their order.
+pub fn lane_part(alloc: Global, entries: &Entries, lane: Lane) -> Result<Entries, AllocError>
+    ensures { IfOk result (λ part. part ≡ filter (λ e. e.task.lane == lane) entries.now) }
+{
+    let mut part = Vec::new(alloc);
+    for entry in entries.slice() {
+        if entry.task.lane == lane {
+            part.push(entry.copy(alloc)?)?;
+        }
+    }
+    Ok(Entries::from_vec(part))
+}

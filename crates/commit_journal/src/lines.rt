@@ -1,0 +1,62 @@
+ghost use Rattle.std.specs.Prelude.{◌≡◌, ◌++◌, OnOk};
+ghost use Rattle.std.specs.Option.{option_copied};
+ghost use Rattle.std.specs.String.{string_bytes};
+ghost use Rattle.commit_journal.specs.Text.{edit_line, reply_lines, indented, answered_edit, answered_edits, head_line};
+
+use mesh_data::{Edit, Entry, Reply};
+use std::alloc::AllocError;
+
+fn put_edit(text: &mut String, edit: &Edit) -> Result<(), AllocError>
+    ensures { OnOk result (string_bytes text.new ≡ string_bytes text.old ++ edit_line edit.now) }
+{
+    match edit {
+        Edit::Move { v, to } => write!(text, "move {} {} {} {}\n", v.0, to.x, to.y, to.z),
+    }
+}
+
+fn put_reply(text: &mut String, reply: &Reply) -> Result<(), AllocError>
+    ensures { OnOk result (string_bytes text.new ≡ string_bytes text.old ++ indented (reply_lines reply.now)) }
+{
+    match reply {
+        Reply::Unheld(v) => write!(text, "  unheld {}\n", v.0),
+        Reply::Frozen(v) => write!(text, "  frozen {}\n", v.0),
+        Reply::Outside => write!(text, "  outside\n"),
+        Reply::Done => write!(text, "  done\n"),
+    }
+}
+
+fn put_answered(text: &mut String, edit: &Edit, reply: Option<&Reply>) -> Result<(), AllocError>
+    ensures { OnOk result (string_bytes text.new ≡ string_bytes text.old ++ answered_edit edit.now (option_copied reply.entry)) }
+{
+    put_edit(text, edit)?;
+    if let Some(reply) = reply {
+        put_reply(text, reply)?;
+    }
+    Ok(())
+}
+
+/// Writes each edit with the reply at its place, if there is one.
+pub fn put_edits(text: &mut String, edits: &[Edit], replies: &[Reply]) -> Result<(), AllocError>
+    ensures { OnOk result (string_bytes text.new ≡ string_bytes text.old ++ answered_edits edits.now replies.now) }
+{
+    let mut replies = replies.iter();
+    for edit in edits {
+        put_answered(text, edit, replies.next())?;
+    }
+    Ok(())
+}
+
+/// Writes the head line of the entry with this number.
+pub fn put_head(text: &mut String, number: u32, entry: &Entry) -> Result<(), AllocError>
+    ensures { OnOk result (string_bytes text.new ≡ string_bytes text.old ++ head_line number entry.now) }
+{
+    let task = &entry.task;
+    let low = &task.low;
+    let high = &task.high;
+    let wide = if entry.wide { " wide" } else { "" };
+    write!(
+        text,
+        "commit {number} lane {} number {} box {} {} {} {} {} {}{wide}\n",
+        task.lane.0, task.number, low.x, low.y, low.z, high.x, high.y, high.z
+    )
+}

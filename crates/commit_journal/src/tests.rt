@@ -1,0 +1,103 @@
+use crate::{journal_text, lane_part, line_text};
+use mesh_data::{Edit, Edits, Entries, Entry, Lane, LeafSet, Name, Point, Replies, Reply, Task};
+use std::alloc::{AllocError, Global};
+use std::test::Fail;
+
+fn cube_of(n: i16) -> Point {
+    Point { x: n, y: n, z: n }
+}
+
+fn moved(v: u32, to: i16) -> Edit {
+    Edit::Move {
+        v: Name(v),
+        to: cube_of(to),
+    }
+}
+
+fn entry(
+    lane: u8,
+    number: u32,
+    wide: bool,
+    edits: Vec<Edit>,
+    replies: Vec<Reply>,
+    core: LeafSet,
+) -> Entry {
+    Entry {
+        task: Task {
+            lane: Lane(lane),
+            number,
+            low: cube_of(-32768),
+            high: cube_of(32767),
+            edits: Edits::from_vec(edits),
+        },
+        wide,
+        replies: Replies::from_vec(replies),
+        core,
+    }
+}
+
+fn one_reply(
+    alloc: Global,
+    lane: u8,
+    number: u32,
+    edit: Edit,
+    reply: Reply,
+) -> Result<Entry, AllocError> {
+    let edits = vec![in alloc; edit]?;
+    let replies = vec![in alloc; reply]?;
+    Ok(entry(lane, number, false, edits, replies, LeafSet::new(alloc)))
+}
+
+const TWO_LANES: &str = "commit 0 lane 0 number 0 box -32768 -32768 -32768 32767 32767 32767
+move 0 -1 -1 -1
+  done
+commit 1 lane 63 number 0 box -32768 -32768 -32768 32767 32767 32767
+move 9 0 0 0
+  unheld 9
+";
+
+const SECOND_LANE: &str = "commit 7 lane 63 number 0 box -32768 -32768 -32768 32767 32767 32767
+move 9 0 0 0
+  unheld 9
+";
+
+#[test]
+fn entries_of_two_lanes(rt: HostRuntime) -> Result<(), Fail> {
+    let alloc = rt.alloc();
+    let first = one_reply(alloc, 0, 0, moved(0, -1), Reply::Done)?;
+    let second = one_reply(alloc, 63, 0, moved(9, 0), Reply::Unheld(Name(9)))?;
+    let entries = Entries::from_vec(vec![in alloc; first, second]?);
+    let text = journal_text(alloc, 0, &entries)?;
+    assert!(rt; text.slice() == TWO_LANES.as_bytes());
+
+    let part = lane_part(alloc, &entries, Lane(63))?;
+    assert_eq!(rt; part.len(), 1);
+    let text = line_text(alloc, 7, part.at(0))?;
+    assert!(rt; text.slice() == SECOND_LANE.as_bytes());
+    Ok(())
+}
+
+const TWO_EDITS: &str = "commit 4 lane 1 number 2 box -32768 -32768 -32768 32767 32767 32767
+move 5 3 3 3
+  frozen 5
+move 6 -7 -7 -7
+  outside
+";
+
+const WIDE: &str = "commit 4 lane 1 number 2 box -32768 -32768 -32768 32767 32767 32767 wide
+move 5 3 3 3
+move 6 -7 -7 -7
+";
+
+#[test]
+fn entries_of_two_edits(rt: HostRuntime) -> Result<(), Fail> {
+    let alloc = rt.alloc();
+    for (wide, lines) in [(false, TWO_EDITS), (true, WIDE)] {
+        let edits = vec![in alloc; moved(5, 3), moved(6, -7)]?;
+        let replies = vec![in alloc; Reply::Frozen(Name(5)), Reply::Outside]?;
+        let entry = entry(1, 2, wide, edits, replies, LeafSet::new(alloc));
+        let text = line_text(alloc, 4, &entry)?;
+        assert!(rt; text.slice() == lines.as_bytes());
+    }
+    Ok(())
+}

@@ -1,0 +1,4 @@
+pub mod Files
+pub mod Head
+pub mod Memory
+pub mod Whole

@@ -1,0 +1,19 @@
+//! Sources that bytes are taken from, and sinks that bytes are put into.
+#![tactic(auto)]
+
+mod copies;
+mod files;
+mod flows;
+mod head;
+mod memory;
+mod tally;
+mod whole;
+
+pub use files::{FileSink, FileSource, StdSink};
+pub use flows::{Failed, Sink, Source};
+pub use head::Headed;
+pub use memory::{MemSink, MemSource};
+pub use whole::{TakeFault, put_all, take_all};
+
+#[cfg(test)]
+mod tests;

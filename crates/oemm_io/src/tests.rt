@@ -1,0 +1,118 @@
+//! Each call once, and what no clause can say.
+
+ghost use Rattle.std.specs.Prelude.{◌≡◌, ◌≤◌, ◌∷◌, IfOk, IfSome};
+
+use super::*;
+use std::alloc::Global;
+use std::fs;
+use std::test::Fail;
+
+#[test]
+fn a_source_in_memory_fails_at_its_second_call(rt: HostRuntime) -> Result<(), Fail> {
+    let failing = vec![in rt.alloc(); 2u64]?;
+    let mut source = MemSource::new(vec![in rt.alloc(); 10u8, 20, 30]?, failing, 1);
+    let mut buf = [0u8; 8];
+    assert_eq!(rt; source.take(&mut buf), Ok(1));
+    assert_eq!(rt; source.take(&mut buf), Err(Failed));
+    assert_eq!(rt; source.take(&mut buf), Ok(1));
+    assert_eq!(rt; buf[0], 20);
+    Ok(())
+}
+
+#[test]
+fn a_source_in_memory_gives_all_at_once(rt: HostRuntime) -> Result<(), Fail> {
+    let failing = vec![in rt.alloc(); 2u64]?;
+    let mut source = MemSource::new(vec![in rt.alloc(); 10u8, 20, 30]?, failing, 9);
+    let mut buf = [0u8; 8];
+    assert_eq!(rt; source.take(&mut buf), Ok(3));
+    assert_eq!(rt; buf, [10, 20, 30, 0, 0, 0, 0, 0]);
+    assert_eq!(rt; source.take(&mut buf), Err(Failed));
+    assert_eq!(rt; source.take(&mut buf), Ok(0));
+    Ok(())
+}
+
+#[test]
+fn a_sink_in_memory_is_full(rt: HostRuntime) -> Result<(), Fail> {
+    let mut sink = MemSink::with_room(rt.alloc(), 3, Vec::new(rt.alloc()), 2)?;
+    assert_eq!(rt; sink.put(b"abcd"), Ok(2));
+    assert_eq!(rt; sink.put(b"cd"), Ok(1));
+    assert_eq!(rt; sink.put(b"d"), Err(Failed));
+    assert_eq!(rt; sink.finish(), Ok(()));
+    assert_eq!(rt; sink.bytes(), b"abc".as_slice());
+    Ok(())
+}
+
+fn with_head<S: Source>(alloc: Global, source: S, limit: usize) -> (S, Result<Vec<u8>, TakeFault>)
+    ensures bytes { IfOk result.1 (λ bytes. IfSome (S.left source) (λ told. bytes.items ≡ 112 ∷ 108 ∷ told)) }
+    ensures kept { S.faults source ≤ S.faults result.0 }
+{
+    let (headed, taken) = take_all(alloc, Headed::new(source, *b"ply", 2), limit);
+    (headed.into_source(), taken)
+}
+
+#[test]
+fn the_head_comes_before_the_source(rt: HostRuntime) -> Result<(), Fail> {
+    let source = MemSource::new(vec![in rt.alloc(); b'y']?, Vec::new(rt.alloc()), 9);
+    let (_, taken) = with_head(rt.alloc(), source, 3);
+    assert_eq!(rt; taken?.as_slice(), b"ply".as_slice());
+    Ok(())
+}
+
+#[test]
+fn a_source_is_taken_up_to_the_limit(rt: HostRuntime) -> Result<(), Fail> {
+    for (limit, number, wanted) in [
+        (3, 9u64, Ok(3)),
+        (2, 9, Err(TakeFault::TooMany)),
+        (3, 2, Err(TakeFault::Failed)),
+    ] {
+        let failing = vec![in rt.alloc(); number]?;
+        let source = MemSource::new(vec![in rt.alloc(); 10u8, 20, 30]?, failing, 2);
+        let (_, taken) = take_all(rt.alloc(), source, limit);
+        assert_eq!(rt; taken.map(|bytes| bytes.len()), wanted);
+    }
+    Ok(())
+}
+
+#[test]
+fn a_sink_holds_a_front_after_a_fault(rt: HostRuntime) -> Result<(), Fail> {
+    for (number, wanted) in [(9u64, Ok(())), (2, Err(Failed)), (3, Err(Failed))] {
+        let failing = vec![in rt.alloc(); number]?;
+        let sink = MemSink::with_room(rt.alloc(), 9, failing, 2)?;
+        let (sink, done) = put_all(sink, b"abcd");
+        assert_eq!(rt; done, wanted);
+        assert_eq!(rt; sink.bytes().len(), if number == 2 { 2 } else { 4 });
+    }
+    Ok(())
+}
+
+#[test]
+fn a_file_is_written_and_read(rt: HostRuntime) -> Result<(), Fail> {
+    let path = "oemm_io-round-trip";
+    let sink = FileSink::new(rt.clone()?, String::from_str(rt.alloc(), path)?);
+    let (_, done) = put_all(sink, b"solid");
+    assert_eq!(rt; done, Ok(()));
+    let source = FileSource::new(rt.clone()?, String::from_str(rt.alloc(), path)?);
+    let (_, taken) = take_all(rt.alloc(), source, 9);
+    assert_eq!(rt; taken?.as_slice(), b"solid".as_slice());
+    fs::remove_file(&rt, path)?;
+    Ok(())
+}
+
+#[test]
+fn no_file_and_a_folder_fail(rt: HostRuntime) -> Result<(), Fail> {
+    let mut buf = [0u8; 8];
+    for path in ["oemm_io-no-file", "."] {
+        let mut source = FileSource::new(rt.clone()?, String::from_str(rt.alloc(), path)?);
+        assert_eq!(rt; source.take(&mut buf), Err(Failed));
+        let mut sink = FileSink::new(rt.clone()?, String::from_str(rt.alloc(), ".")?);
+        assert_eq!(rt; sink.finish(), Err(Failed));
+    }
+    Ok(())
+}
+
+#[test]
+fn standard_output_takes_no_byte(rt: HostRuntime) -> Result<(), Fail> {
+    let (_, done) = put_all(StdSink::new(rt.clone()?), b"");
+    assert_eq!(rt; done, Ok(()));
+    Ok(())
+}

@@ -1,0 +1,15 @@
+//! A reader of ASCII OFF meshes: the word `OFF`, the counts of vertices and faces, a line of three coordinates for
+//! each vertex, and a line of `3` and three indices for each face.
+#![tactic(auto)]
+
+mod body;
+mod head;
+mod line;
+mod numbers;
+mod place;
+mod position;
+mod reader;
+#[cfg(test)]
+mod tests;
+
+pub use reader::OffReader;
