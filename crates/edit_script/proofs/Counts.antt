@@ -1,0 +1,27 @@
+-- A line with another number of words than it needs.
+use Rattle.std.proofs.Common.{◌≡◌, ◌≢◌, ℕ, List, [], ◌∷◌, length, Err, refl}
+use Rattle.mesh_data.specs.declared.items.ScriptWhy.TheVariants.{Words}
+use Rattle.edit_script.specs.Line.{task_says, move_says}
+
+-- words behind `task` that aren't seven
+pub task_says_count : (words : List (List ℕ)) → length words ≢ 7 → task_says words ≡ Err Words
+unfolding task_says
+task_says_count [] h = refl
+task_says_count (a ∷ []) h = refl
+task_says_count (a ∷ b ∷ []) h = refl
+task_says_count (a ∷ b ∷ c ∷ []) h = refl
+task_says_count (a ∷ b ∷ c ∷ d ∷ []) h = refl
+task_says_count (a ∷ b ∷ c ∷ d ∷ e ∷ []) h = refl
+task_says_count (a ∷ b ∷ c ∷ d ∷ e ∷ f ∷ []) h = refl
+task_says_count (a ∷ b ∷ c ∷ d ∷ e ∷ f ∷ g ∷ []) h = absurd (h refl)
+task_says_count (a ∷ b ∷ c ∷ d ∷ e ∷ f ∷ g ∷ i ∷ ws) h = refl
+
+-- words behind `move` that aren't four
+pub move_says_count : (words : List (List ℕ)) → length words ≢ 4 → move_says words ≡ Err Words
+unfolding move_says
+move_says_count [] h = refl
+move_says_count (a ∷ []) h = refl
+move_says_count (a ∷ b ∷ []) h = refl
+move_says_count (a ∷ b ∷ c ∷ []) h = refl
+move_says_count (a ∷ b ∷ c ∷ d ∷ []) h = absurd (h refl)
+move_says_count (a ∷ b ∷ c ∷ d ∷ e ∷ ws) h = refl

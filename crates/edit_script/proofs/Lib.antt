@@ -1,0 +1,4 @@
+pub mod Counts
+pub mod Edits
+pub mod Readings
+pub mod Tasks

@@ -1,0 +1,4 @@
+pub mod Line
+pub mod Grammar
+pub mod Ranges
+pub mod Script

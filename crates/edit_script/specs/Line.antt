@@ -1,0 +1,75 @@
+-- What a line of a script says, by its words. Within a line the faults come in the order Word, Words, Number, Lane, Box.
+use Rattle.std.specs.Prelude.{ℕ, ◌^◌, nat_lt, Bool, ◌&&◌, bytes_eq, codes, List, [], ◌∷◌, Option, Some, None, Result, Ok, Err, option_and_then, ℤ, pos, negsuc, int_le, if◌then◌else◌}
+use Rattle.oemm_lines.specs.Numbers.{whole_of, integer_of}
+use Rattle.mesh_data.specs.declared.geometry.Point.{Point}
+use Rattle.mesh_data.specs.declared.edits.Edit.TheVariants.{Move}
+use Rattle.mesh_data.specs.declared.items.ScriptWhy.{ScriptWhy}
+use Rattle.mesh_data.specs.declared.items.ScriptWhy.TheVariants.{Word, Words, Number, Lane, Box}
+use Rattle.edit_script.specs.declared.line.LineMeaning.{LineMeaning}
+use Rattle.edit_script.specs.declared.line.LineMeaning.TheVariants.{TaskLine, EditLine}
+
+-- the next step, unless there is nothing
+infixl 10 ◌>>=◌
+abbrev pub ◌>>=◌ : {A B : Type 0} → Option A → (A → Option B) → Option B
+o >>= f = option_and_then f o
+
+-- the number lies on the grid
+abbrev pub is_coordinate : ℤ → Bool
+is_coordinate n = int_le (negsuc 32767) n && int_le n (pos 32767)
+
+-- the coordinate that a word writes
+unfoldable pub coordinate_of : List ℕ → Option ℤ
+coordinate_of word = do
+  n ← integer_of word
+  if is_coordinate n then Some n else None
+
+-- the point that three words write
+unfoldable pub point_of : List ℕ → List ℕ → List ℕ → Option Point
+point_of first second third = do
+  x ← coordinate_of first
+  y ← coordinate_of second
+  z ← coordinate_of third
+  Some (record { x = x; y = y; z = z })
+
+-- the name that a word writes
+unfoldable pub name_of : List ℕ → Option ℕ
+name_of word = do
+  n ← whole_of word
+  if nat_lt n (2 ^ 32) then Some n else None
+
+-- the low corner is at most the high one along each axis
+abbrev pub is_box : Point → Point → Bool
+is_box low high = int_le low.x high.x && int_le low.y high.y && int_le low.z high.z
+
+-- the task, where the lane is below 64 and the corners are those of a box
+abbrev pub task_within : ℕ → Point → Point → Result LineMeaning ScriptWhy
+task_within lane low high =
+    if nat_lt 63 lane then Err Lane else if is_box low high then Ok (TaskLine lane low high) else Err Box
+
+-- the task of a lane and two corners, where these are numbers
+abbrev pub task_of : Option ℕ → Option Point → Option Point → Result LineMeaning ScriptWhy
+task_of (Some lane) (Some low) (Some high) = task_within lane low high
+task_of _ _ _ = Err Number
+
+-- the move of a name to a point, where these are numbers
+abbrev pub move_of : Option ℕ → Option Point → Result LineMeaning ScriptWhy
+move_of (Some v) (Some to) = Ok (EditLine (Move v to))
+move_of _ _ = Err Number
+
+-- what the words behind `task` say
+unfoldable pub task_says : List (List ℕ) → Result LineMeaning ScriptWhy
+task_says (lane ∷ x ∷ y ∷ z ∷ x' ∷ y' ∷ z' ∷ []) = task_of (whole_of lane) (point_of x y z) (point_of x' y' z')
+task_says _ = Err Words
+
+-- what the words behind `move` say
+unfoldable pub move_says : List (List ℕ) → Result LineMeaning ScriptWhy
+move_says (v ∷ x ∷ y ∷ z ∷ []) = move_of (name_of v) (point_of x y z)
+move_says _ = Err Words
+
+-- what a line says, by its first word
+unfoldable pub line_says : List (List ℕ) → Result LineMeaning ScriptWhy
+line_says [] = Err Word
+line_says (word ∷ words) =
+    if bytes_eq word (codes "task") then task_says words
+    else if bytes_eq word (codes "move") then move_says words
+    else Err Word

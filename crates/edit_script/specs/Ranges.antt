@@ -1,0 +1,44 @@
+-- The ranges of what a script says.
+use Rattle.std.specs.Prelude.{◌≡◌, ℕ, ◌<◌, ◌≤◌, ◌≤ℤ◌, List, length, All, slice_index, slice_index_or, take, ⊤}
+use Rattle.mesh_data.specs.declared.geometry.Point.{Point}
+use Rattle.mesh_data.specs.declared.edits.Task.{Task}
+use Rattle.edit_script.specs.declared.line.LineMeaning.{LineMeaning}
+use Rattle.edit_script.specs.declared.line.LineMeaning.TheVariants.{TaskLine, EditLine}
+use Rattle.edit_script.specs.Grammar.{most_tasks, most_edits, lane_count}
+
+-- the low corner is at most the high one along each axis
+pub record IsBox (low high : Point) : Type 0 where
+  pub x : low.x ≤ℤ high.x
+  pub y : low.y ≤ℤ high.y
+  pub z : low.z ≤ℤ high.z
+
+-- the lane and the box of a task's line are within their ranges
+abbrev pub IsWithin : LineMeaning → Type 0
+IsWithin (TaskLine lane low high) = (lane < 64) × IsBox low high
+IsWithin (EditLine edit) = ⊤
+
+-- the task's lane, box and number of edits are within their ranges
+pub record IsTask (task : Task) : Type 0 where
+  pub lane : task.lane < 64
+  pub box : IsBox task.low task.high
+  pub edits : length task.edits ≤ most_edits
+
+-- each task's number is that of its lane's tasks before it
+abbrev pub AreNumbered : List Task → Type 0
+AreNumbered tasks = (k : ℕ) (d : Task) → k < length tasks →
+    (slice_index_or tasks k d).number ≡ lane_count (slice_index_or tasks k d).lane (take k tasks)
+
+-- the tasks of a script are few, each within its ranges, and numbered by their lanes
+pub record AreTasks (tasks : List Task) : Type 0 where
+  pub few : length tasks ≤ most_tasks
+  pub each : All IsTask tasks
+  pub numbered : AreNumbered tasks
+
+-- these are the numbers of the tasks of the 64 lanes
+abbrev pub AreCounts : List ℕ → List Task → Type 0
+AreCounts counts tasks = (lane : ℕ) → lane < 64 → slice_index counts lane ≡ lane_count lane tasks
+
+-- what is held of the tasks that were read: how many each lane has
+pub record IsDraft (held : List ℕ) (read : List Task) : Type 0 where
+  pub counts : AreCounts held read
+  pub tasks : AreTasks read

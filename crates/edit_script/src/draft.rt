@@ -1,0 +1,126 @@
+ghost use Rattle.std.specs.Prelude.{◌≡◌, ◌<◌, ℕ, List, OnOk, IfErr, IfOk};
+ghost use Rattle.oemm_lines.specs.Words.{words_of};
+ghost use Rattle.edit_script.specs.Line.{line_says};
+ghost use Rattle.edit_script.specs.Grammar.{with_task, with_edit, after_line};
+ghost use Rattle.edit_script.specs.Ranges.{IsBox, AreTasks, IsDraft};
+ghost use Rattle.edit_script.specs.Script.{StopsBy};
+
+use crate::fault::ScriptFault;
+use crate::line::{LineMeaning, line_meaning};
+use mesh_data::{Edit, Lane, List, Point, Script, ScriptWhy, Task, What};
+use std::alloc::Global;
+use std::marker::Model;
+
+/// The greatest number of tasks of a script.
+const MOST_TASKS: usize = 1 << 20;
+
+/// The greatest number of edits of a task.
+const MOST_EDITS: usize = 1 << 16;
+
+/// The tasks read so far, and how many of them each lane has.
+#[derive(Drop)]
+pub struct Draft {
+    tasks: Vec<Task>,
+    counts: [u32; 64],
+}
+
+impl Model for Draft {
+    ghost use Rattle.std.specs.Prelude.{List};
+    ghost use Rattle.mesh_data.specs.declared.edits.Task.{Task};
+    ghost use Rattle.edit_script.specs.Ranges.{IsDraft};
+
+    ghost Value = { List Task };
+
+    ghost view = { λ d. d.tasks.items };
+
+    ghost invariant = { λ d. IsDraft d.counts d.tasks.items };
+}
+
+impl Draft {
+    ghost use Rattle.std.specs.Prelude.{[]};
+
+    /// No task.
+    pub fn new(alloc: Global) -> Draft
+        ensures { result ≡ [] }
+    {
+        Draft {
+            tasks: Vec::new(alloc),
+            counts: [0; 64],
+        }
+    }
+
+    /// Reads the next line, which has this number. After an error it isn't said which tasks there are.
+    pub fn read_line(&mut self, alloc: Global, number: u32, text: &[u8]) -> Result<(), ScriptFault>
+        ensures ok { OnOk result (after_line number self.old (line_says (words_of text.now)) ≡ Ok self.new) }
+        ensures err { IfErr result (λ fault. StopsBy fault (after_line number self.old (line_says (words_of text.now)))) }
+    {
+        match line_meaning(text) {
+            Ok(LineMeaning::TaskLine { lane, low, high }) => self.begin(alloc, lane, low, high),
+            Ok(LineMeaning::EditLine { edit }) => push_edit(&mut self.tasks, number, edit),
+            Err(why) => Err(ScriptFault::Syntax { line: number, why }),
+        }
+    }
+
+    /// Begins a task.
+    #[tactic(auto, using(crate::proofs::Tasks::kept_by_task), unfolding(crate::specs::Grammar::with_task))]
+    fn begin(&mut self, alloc: Global, lane: u8, low: Point, high: Point) -> Result<(), ScriptFault>
+        requires lane { lane < 64 }
+        requires ordered { IsBox low high }
+        ensures ok { OnOk result (with_task self.old lane low high ≡ Ok self.new) }
+        ensures err { IfErr result (λ fault. StopsBy fault (with_task self.old lane low high)) }
+    {
+        if self.tasks.len() >= MOST_TASKS {
+            return Err(ScriptFault::TooMany {
+                what: What::Tasks,
+                count: MOST_TASKS as u64 + 1,
+            });
+        }
+        let place = usize::from(lane);
+        self.tasks.push(Task {
+            lane: Lane(lane),
+            number: self.counts[place],
+            low,
+            high,
+            edits: List::new(alloc),
+        })?;
+        self.counts[place] += 1;
+        Ok(())
+    }
+
+    /// The script of the tasks.
+    pub fn finish(self) -> Script
+        ensures tasks { result.tasks ≡ self }
+        ensures ranges { AreTasks result.tasks }
+    {
+        let Draft { tasks, .. } = self;
+        Script {
+            tasks: List::from_vec(tasks),
+        }
+    }
+}
+
+/// Puts an edit behind those of the last task, in the line with this number.
+#[tactic(auto, using(crate::proofs::Edits::with_edit_none, crate::proofs::Edits::with_edit_full, crate::proofs::Edits::with_edit_ok))]
+fn push_edit(tasks: &mut Vec<Task>, number: u32, edit: Edit) -> Result<(), ScriptFault>
+    ensures ok { OnOk result (with_edit number tasks.old.items edit ≡ Ok tasks.new.items) }
+    ensures err { IfErr result (λ fault. StopsBy fault (with_edit number tasks.old.items edit)) }
+    ensures kept { (counts : List ℕ) → IsDraft counts tasks.old.items → IsDraft counts tasks.new.items }
+{
+    let Some(last) = tasks.len().checked_sub(1) else {
+        return Err(ScriptFault::Syntax {
+            line: number,
+            why: ScriptWhy::NoTask,
+        });
+    };
+    let task = &mut tasks[last];
+    if task.edits.len() >= MOST_EDITS {
+        return Err(ScriptFault::TooMany {
+            what: What::Edits,
+            count: MOST_EDITS as u64 + 1,
+        });
+    }
+    if task.edits.push(edit).is_err() {
+        return Err(ScriptFault::Memory);
+    }
+    Ok(())
+}

@@ -1,0 +1,141 @@
+ghost use Rattle.std.specs.Prelude.{◌≡◌, ◌<◌, [], ◌∷◌, length, IfOk, OnOk, IfErr};
+ghost use Rattle.oemm_lines.specs.Numbers.{whole_of};
+ghost use Rattle.oemm_lines.specs.Words.{words_of};
+ghost use Rattle.edit_script.specs.Ranges.{IsWithin};
+ghost use Rattle.edit_script.specs.Line.{point_of, name_of, task_within, task_of, move_of, task_says, move_says, line_says};
+
+use crate::numbers::{is_box, name, point};
+use mesh_data::{Edit, Point, ScriptWhy};
+use oemm_lines::{next_word, whole};
+
+/// What a line says.
+#[derive(Clone, Copy)]
+pub enum LineMeaning {
+    /// A task begins, with its lane and the corners of its box.
+    TaskLine { lane: u8, low: Point, high: Point },
+    /// An edit of the last task.
+    EditLine { edit: Edit },
+}
+
+/// The three words of a point.
+#[derive(Clone, Copy)]
+struct PointWords<'a> {
+    x: &'a [u8],
+    y: &'a [u8],
+    z: &'a [u8],
+}
+
+/// The next word, and what follows it.
+fn word(text: &[u8]) -> Result<(&[u8], &[u8]), ScriptWhy>
+    ensures ok { IfOk result (λ w. words_of text.now ≡ w.0.now ∷ words_of w.1.now) }
+    ensures err { IfErr result (λ why. (why ≡ ScriptWhy.Words) × (words_of text.now ≡ [])) }
+{
+    next_word(text).ok_or(ScriptWhy::Words)
+}
+
+/// The next three words, and what follows them.
+fn point_words(text: &[u8]) -> Result<(PointWords<'_>, &[u8]), ScriptWhy>
+    ensures ok { IfOk result (λ w. words_of text.now ≡ w.0.x.now ∷ w.0.y.now ∷ w.0.z.now ∷ words_of w.1.now) }
+    ensures err { IfErr result (λ why. (why ≡ ScriptWhy.Words) × (length (words_of text.now) < 3)) }
+{
+    let (x, rest) = word(text)?;
+    let (y, rest) = word(rest)?;
+    let (z, rest) = word(rest)?;
+    Ok((PointWords { x, y, z }, rest))
+}
+
+/// Wants no further word.
+fn no_word(text: &[u8]) -> Result<(), ScriptWhy>
+    ensures ok { OnOk result (words_of text.now ≡ []) }
+    ensures err { IfErr result (λ why. (why ≡ ScriptWhy.Words) × (0 < length (words_of text.now))) }
+{
+    match next_word(text) {
+        None => Ok(()),
+        Some(_) => Err(ScriptWhy::Words),
+    }
+}
+
+/// The task of a lane and two corners.
+fn task_within(lane: u128, low: Point, high: Point) -> Result<LineMeaning, ScriptWhy>
+    ensures value { result ≡ task_within lane low high }
+    ensures within { IfOk result IsWithin }
+{
+    if lane > 63 {
+        return Err(ScriptWhy::Lane);
+    }
+    if !is_box(&low, &high) {
+        return Err(ScriptWhy::Box);
+    }
+    Ok(LineMeaning::TaskLine {
+        lane: lane as u8,
+        low,
+        high,
+    })
+}
+
+/// The task of a lane's word and two corners' words.
+fn task_of(lane: &[u8], low: &PointWords, high: &PointWords) -> Result<LineMeaning, ScriptWhy>
+    ensures value { result ≡ task_of (whole_of lane.now) (point_of low.now.x.now low.now.y.now low.now.z.now)
+        (point_of high.now.x.now high.now.y.now high.now.z.now) }
+    ensures within { IfOk result IsWithin }
+{
+    let lane = whole(lane).ok_or(ScriptWhy::Number)?;
+    let low = point(low.x, low.y, low.z).ok_or(ScriptWhy::Number)?;
+    let high = point(high.x, high.y, high.z).ok_or(ScriptWhy::Number)?;
+    task_within(lane, low, high)
+}
+
+/// The move of a name's word and a point's words.
+fn move_of(v: &[u8], to: &PointWords) -> Result<LineMeaning, ScriptWhy>
+    ensures value { result ≡ move_of (name_of v.now) (point_of to.now.x.now to.now.y.now to.now.z.now) }
+    ensures within { IfOk result IsWithin }
+{
+    let v = name(v).ok_or(ScriptWhy::Number)?;
+    let to = point(to.x, to.y, to.z).ok_or(ScriptWhy::Number)?;
+    Ok(LineMeaning::EditLine {
+        edit: Edit::Move { v, to },
+    })
+}
+
+/// What the words behind `task` say.
+#[tactic(auto, using(crate::proofs::Counts::task_says_count), unfolding(crate::specs::Line::task_says))]
+fn task_meaning(text: &[u8]) -> Result<LineMeaning, ScriptWhy>
+    ensures value { result ≡ task_says (words_of text.now) }
+    ensures within { IfOk result IsWithin }
+{
+    let (lane, rest) = word(text)?;
+    let (low, rest) = point_words(rest)?;
+    let (high, rest) = point_words(rest)?;
+    no_word(rest)?;
+    task_of(lane, &low, &high)
+}
+
+/// What the words behind `move` say.
+#[tactic(auto, using(crate::proofs::Counts::move_says_count), unfolding(crate::specs::Line::move_says))]
+fn move_meaning(text: &[u8]) -> Result<LineMeaning, ScriptWhy>
+    ensures value { result ≡ move_says (words_of text.now) }
+    ensures within { IfOk result IsWithin }
+{
+    let (v, rest) = word(text)?;
+    let (to, rest) = point_words(rest)?;
+    no_word(rest)?;
+    move_of(v, &to)
+}
+
+/// What a line says.
+#[tactic(auto, unfolding(crate::specs::Line::line_says))]
+pub fn line_meaning(text: &[u8]) -> Result<LineMeaning, ScriptWhy>
+    ensures value { result ≡ line_says (words_of text.now) }
+    ensures within { IfOk result IsWithin }
+{
+    let Some((first, rest)) = next_word(text) else {
+        return Err(ScriptWhy::Word);
+    };
+    if first == b"task".as_slice() {
+        task_meaning(rest)
+    } else if first == b"move".as_slice() {
+        move_meaning(rest)
+    } else {
+        Err(ScriptWhy::Word)
+    }
+}
