@@ -53,7 +53,7 @@ euler2 m = pos (2 * (map.len m.vertices + length m.tris)) -ℤ pos (2 * set.len 
 
 -- the border, ascending
 abbrev pub border : Mesh → List Edge
-border m = set.items (border_edges m.tris)
+border m = border_edges m.tris
 
 abbrev pub point_code : Coded Point
 point_code = code_by (ℤ × (ℤ × ℤ)) (coded× coded_ℤ (coded× coded_ℤ coded_ℤ)) (λ p. (p.x, (p.y, p.z))) (λ q. record { x = q.0; y = q.1.0; z = q.1.1 }) (λ _. refl)

@@ -1,11 +1,12 @@
 -- Lists of triangles: corners, neighbours, edges and border.
 use Rattle.std.specs.Prelude.{ℕ, ◌<◌, Bool, not, ◌&&◌, ◌||◌, ◌==◌, nat_lt, List, [], ◌∷◌, map, if◌then◌else◌, ◌≢◌}
-use Rattle.std.specs.List.{list_any, filter, flat_map}
+use Rattle.std.specs.List.{list_any, filter, flat_map, dedup}
 use Rattle.std.specs.declared.cmp.Ordering.{Ordering}
 use Rattle.std.specs.Ordering.{nat_cmp, ordering_then}
 use Rattle.std.specs.FinSet as set
 use Rattle.mesh_data.specs.declared.geometry.Tri.{Tri}
 use Rattle.mesh_data.specs.declared.geometry.Edge.{Edge}
+use Rattle.mesh_data.specs.Ascending.{in_order}
 
 -- triangles by their first, then their second, then their third name
 abbrev pub tri_cmp : Tri → Tri → Ordering
@@ -69,6 +70,10 @@ undirected e = if nat_lt e.b e.a then reversed e else e
 abbrev pub undirected_edges : List Tri → set.FinSet edge_cmp
 undirected_edges ts = set.from_list (map undirected (directed_edges ts))
 
--- the directed edges whose reverse is in no triangle
-abbrev pub border_edges : List Tri → set.FinSet edge_cmp
-border_edges ts = set.from_list (filter (λ e. not (has_edge ts (reversed e))) (directed_edges ts))
+-- the same edges, each once, ascending
+abbrev pub each_once : List Edge → List Edge
+each_once edges = dedup same_edge (in_order edge_cmp edges)
+
+-- the directed edges whose reverse is in no triangle, each once, ascending
+abbrev pub border_edges : List Tri → List Edge
+border_edges ts = each_once (filter (λ e. not (has_edge ts (reversed e))) (directed_edges ts))

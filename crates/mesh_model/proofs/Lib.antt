@@ -1,0 +1,5 @@
+pub mod Sorting
+pub mod Orders
+pub mod EdgeSets
+pub mod Vertices
+pub mod Stars

@@ -1,0 +1,15 @@
+use Rattle.std.proofs.Common.{◌≡◌, ◌≤◌, ◌++◌, drop, length, vec_capacity}
+use Rattle.mesh_data.specs.Octree.{is_inside}
+use Rattle.mesh_data.specs.Work.{work}
+use Rattle.mesh_model.proofs.plain_mesh.PlainMesh.worked.Given as goal
+
+abbrev pub invariant-loop-edit : goal.invariant-loop-edit
+invariant-loop-edit l =
+    let rest = work (is_inside l.area) l.self (drop l.edit-index l.edits) in
+    let all = work (is_inside l.area) l.fn.self l.edits in
+    record {
+      mesh : rest.mesh ≡ all.mesh;
+      told : l.replies.items ++ rest.replies ≡ all.replies;
+      len : length l.replies.items ≡ l.edit-index;
+      room : length l.edits ≤ vec_capacity l.replies;
+    }

@@ -1,0 +1,196 @@
+ghost use Rattle.std.specs.Prelude.{◌≡◌, ◌≤◌, ◌<◌, ◌^◌, length, IsTrue, IfOk, All};
+ghost use Rattle.mesh_data.specs.Octree.{AreCells};
+ghost use Rattle.mesh_data.specs.Triangles.{IsProper, IsBelow};
+
+use super::*;
+use std::alloc::{AllocError, Global};
+use std::test::Fail;
+
+fn is_face(points: usize, t: &Tri) -> bool
+    ensures proper { IsTrue result → IsProper t.now }
+    ensures below { IsTrue result → IsBelow points t.now }
+{
+    t.a != t.b
+        && t.b != t.c
+        && t.c != t.a
+        && (t.a.0 as usize) < points
+        && (t.b.0 as usize) < points
+        && (t.c.0 as usize) < points
+}
+
+fn are_faces(points: usize, faces: &[Tri]) -> bool
+    ensures proper { IsTrue result → All IsProper faces.now }
+    ensures below { IsTrue result → All (IsBelow points) faces.now }
+{
+    for t in faces {
+        if !is_face(points, t) {
+            return false;
+        }
+    }
+    true
+}
+
+fn mesh_of(alloc: Global, points: &[Point], faces: &[Tri]) -> Result<PlainMesh, AllocError> {
+    if points.len() > 99 || faces.len() > 99 || !are_faces(points.len(), faces) {
+        return Err(AllocError);
+    }
+    PlainMesh::from_soup(alloc, points, faces)
+}
+
+fn octree(alloc: Global, depth: u8, xs: &[u8]) -> Result<Cells, AllocError>
+    requires depth { depth ≤ 6 }
+    requires few { length xs.now < 2 ^ 32 }
+    ensures cells { IfOk result AreCells }
+    ensures len { IfOk result (λ cells. length cells ≡ length xs.now) }
+{
+    let mut cells = Vec::new(alloc);
+    for x in xs {
+        cells.push(Cell {
+            depth,
+            x: *x,
+            y: depth,
+            z: depth,
+        })?;
+    }
+    Ok(List::from_vec(cells))
+}
+
+fn task_on(alloc: Global, low: Point, high: Point, edits: &[Edit]) -> Result<Task, AllocError> {
+    Ok(Task {
+        lane: Lane(0),
+        number: 0,
+        low,
+        high,
+        edits: List::from_vec(Vec::from_slice(alloc, edits)?),
+    })
+}
+
+fn at(x: i16, y: i16, z: i16) -> Point {
+    Point { x, y, z }
+}
+
+fn tri(a: u32, b: u32, c: u32) -> Tri {
+    Tri {
+        a: Name(a),
+        b: Name(b),
+        c: Name(c),
+    }
+}
+
+fn edge(a: u32, b: u32) -> Edge {
+    Edge {
+        a: Name(a),
+        b: Name(b),
+    }
+}
+
+fn to(v: u32, x: i16, y: i16, z: i16) -> Edit {
+    Edit::Move {
+        v: Name(v),
+        to: at(x, y, z),
+    }
+}
+
+fn tetrahedron(alloc: Global) -> Result<PlainMesh, AllocError> {
+    let points = [at(0, 0, 0), at(4, 0, 0), at(0, 4, 0), at(0, 0, 4)];
+    let faces = [tri(0, 2, 1), tri(0, 1, 3), tri(0, 3, 2), tri(1, 2, 3)];
+    mesh_of(alloc, &points, &faces)
+}
+
+/// Does moves on the whole cube, an octree of one leaf.
+fn moved(alloc: Global, mesh: &mut PlainMesh) -> Result<Entry, AllocError> {
+    let low = at(-32768, -32768, -32768);
+    let high = at(32767, 32767, 32767);
+    let edits = [to(0, -1, -1, -1), to(9, 0, 0, 0)];
+    let task = task_on(alloc, low, high, &edits)?;
+    let cells = octree(alloc, 0, &[0])?;
+    mesh.do_task(alloc, &cells, 1, &task)
+}
+
+#[test]
+fn moves_the_corner_of_a_tetrahedron(rt: HostRuntime) -> Result<(), Fail> {
+    let mut mesh = tetrahedron(rt.alloc())?;
+    let entry = moved(rt.alloc(), &mut mesh)?;
+    assert!(rt; !entry.wide);
+    assert_eq!(rt;
+        entry.task.edits.slice(),
+        [to(0, -1, -1, -1), to(9, 0, 0, 0)].as_slice()
+    );
+    assert_eq!(rt;
+        entry.replies.slice(),
+        [Reply::Done, Reply::Unheld(Name(9))].as_slice()
+    );
+    assert_eq!(rt; entry.core.slice(), [LeafNo(0)].as_slice());
+    assert_eq!(rt; mesh.point(Name(0)), Some(at(-1, -1, -1)));
+    Ok(())
+}
+
+#[test]
+fn tells_the_parts_of_a_tetrahedron(rt: HostRuntime) -> Result<(), Fail> {
+    let mesh = tetrahedron(rt.alloc())?;
+    let points = [at(0, 0, 0), at(4, 0, 0), at(0, 4, 0), at(0, 0, 4)];
+    assert_eq!(rt; mesh.points(rt.alloc())?.slice(), points.as_slice());
+    let tris = [tri(0, 1, 3), tri(0, 2, 1), tri(0, 3, 2), tri(1, 2, 3)];
+    assert_eq!(rt; mesh.tris(rt.alloc())?.slice(), tris.as_slice());
+    assert_eq!(rt; mesh.names(rt.alloc())?.len(), 4);
+    assert_eq!(rt; mesh.euler(rt.alloc())?, 2);
+    assert_eq!(rt; mesh.euler2(rt.alloc())?, 4);
+    assert!(rt; mesh.border(rt.alloc())?.is_empty());
+    Ok(())
+}
+
+#[test]
+fn one_triangle_is_a_disk(rt: HostRuntime) -> Result<(), Fail> {
+    let points = [at(0, 0, 0), at(1, 0, 0), at(0, 1, 0)];
+    let mesh = mesh_of(rt.alloc(), &points, &[tri(2, 0, 1)])?;
+    assert_eq!(rt; mesh.euler2(rt.alloc())?, 2);
+    let border = mesh.border(rt.alloc())?;
+    assert_eq!(rt;
+        border.slice(),
+        [edge(0, 1), edge(1, 2), edge(2, 0)].as_slice()
+    );
+    let empty = mesh_of(rt.alloc(), &[], &[])?;
+    assert_eq!(rt; empty.euler2(rt.alloc())?, 0);
+    assert_eq!(rt; turned_tri(&tri(7, 3, 5)), tri(3, 5, 7));
+    Ok(())
+}
+
+/// Two triangles over two octants that meet where x is 0: of the four vertices the last lies on the left.
+fn over_two_octants(alloc: Global) -> Result<PlainMesh, AllocError> {
+    let points = [at(5, 0, 0), at(1, 0, 0), at(1, 4, 0), at(-3, 2, 0)];
+    mesh_of(alloc, &points, &[tri(0, 2, 1), tri(1, 2, 3)])
+}
+
+#[test]
+fn edits_stay_in_their_core(rt: HostRuntime) -> Result<(), Fail> {
+    let mut mesh = over_two_octants(rt.alloc())?;
+    let cells = octree(rt.alloc(), 1, &[0, 1])?;
+    let core = core_leaves(rt.alloc(), &cells, &at(0, 0, 0), &at(9, 9, 9))?;
+    assert_eq!(rt; core.slice(), [LeafNo(1)].as_slice());
+    let area = Area::of(rt.alloc(), &cells, &core)?;
+    assert!(rt; area.holds(&at(0, 7, 7)) && !area.holds(&at(-1, 7, 7)));
+    for (edit, want) in [
+        (to(3, 2, 2, 2), Reply::Unheld(Name(3))),
+        (to(1, 2, 2, 2), Reply::Frozen(Name(1))),
+        (to(0, -1, 0, 0), Reply::Outside),
+        (to(0, 2, 2, 2), Reply::Done),
+    ] {
+        assert_eq!(rt; mesh.do_edit(rt.alloc(), &area, &edit)?, want);
+    }
+    assert_eq!(rt; mesh.point(Name(0)), Some(at(2, 2, 2)));
+    Ok(())
+}
+
+#[test]
+fn a_wide_task_changes_nothing(rt: HostRuntime) -> Result<(), Fail> {
+    let mut mesh = over_two_octants(rt.alloc())?;
+    let cells = octree(rt.alloc(), 1, &[0, 1])?;
+    let both = task_on(rt.alloc(), at(-1, 0, 0), at(0, 0, 0), &[to(1, 0, 0, 0)])?;
+    let wide = mesh.do_task(rt.alloc(), &cells, 1, &both)?;
+    assert!(rt; wide.wide && wide.replies.is_empty() && wide.core.len() == 0);
+    assert_eq!(rt; mesh.point(Name(1)), Some(at(1, 0, 0)));
+    let done = mesh.do_task(rt.alloc(), &cells, 2, &both)?;
+    assert_eq!(rt; done.core.slice(), [LeafNo(0), LeafNo(1)].as_slice());
+    assert_eq!(rt; mesh.point(Name(1)), Some(at(0, 0, 0)));
+    Ok(())
+}

@@ -1,0 +1,125 @@
+ghost use Rattle.std.specs.Prelude.{◌≡◌, ◌<◌, ◌+◌, ◌^◌, [], ◌∷◌, ◌++◌, map, length, IfOk, OnOk, OnErr};
+ghost use Rattle.mesh_data.specs.Ascending.{IsAboveLast};
+ghost use Rattle.std.specs.Option.{option_map_or};
+ghost use Rattle.std.specs.BTreeMap.{IsOrdered, values};
+ghost use Rattle.std.specs.Ordering.{nat_cmp};
+ghost use Rattle.std.specs.FinMap as finite;
+ghost use Rattle.mesh_data.specs.Mesh.{named_from};
+
+use mesh_data::{List, Name, NameSet, Point, Points, Vertex};
+use std::alloc::{AllocError, Global};
+use std::collections::BTreeMap;
+use std::marker::Model;
+
+/// The vertices of a mesh, by their names.
+#[derive(Drop)]
+pub struct VertexMap {
+    vertices: BTreeMap<Name, Vertex>,
+}
+
+impl Model for VertexMap {
+    ghost use Rattle.std.specs.Ordering.{nat_cmp};
+    ghost use Rattle.std.specs.FinMap as finite;
+    ghost use Rattle.std.specs.Coded.{coded_ℕ};
+    ghost use Rattle.mesh_data.specs.declared.geometry.Vertex.{Vertex};
+    ghost use Rattle.mesh_data.specs.Mesh.{vertex_code};
+
+    ghost Value = { finite.FinMap nat_cmp Vertex };
+
+    ghost coded = { finite.code coded_ℕ vertex_code };
+
+    ghost view = { λ a. finite.from_entries a.vertices.entries };
+}
+
+impl VertexMap {
+    /// No vertices. It takes no memory.
+    pub fn new(alloc: Global) -> Self
+        ensures { result ≡ finite.empty }
+    {
+        VertexMap {
+            vertices: BTreeMap::new(alloc),
+        }
+    }
+
+    /// Vertices at these points, named by their places.
+    pub fn at_points(alloc: Global, points: &[Point]) -> Result<VertexMap, AllocError>
+        requires { length points.now < 2 ^ 32 }
+        ensures vertices { IfOk result (λ m. m ≡ finite.from_entries (named_from 0 points.now)) }
+        ensures len { IfOk result (λ m. finite.len m ≡ length points.now) }
+    {
+        let mut vertices = VertexMap::new(alloc);
+        for (place, point) in points.iter().enumerate() {
+            vertices.insert(Name(place as u32), Vertex { point: *point })?;
+        }
+        Ok(vertices)
+    }
+
+    /// The number of vertices.
+    pub fn len(&self) -> usize
+        ensures { result ≡ finite.len self.now }
+    {
+        self.vertices.len()
+    }
+
+    /// The vertex of a name, if there is one.
+    pub fn get(&self, v: Name) -> Option<Vertex>
+        ensures { result ≡ finite.get self.now v }
+    {
+        self.vertices.get(&v).copied()
+    }
+
+    /// Puts a vertex at a name. For want of memory nothing is changed.
+    pub fn insert(&mut self, v: Name, vertex: Vertex) -> Result<(), AllocError>
+        ensures ok { OnOk result (self.new ≡ finite.insert self.old v vertex) }
+        ensures err { OnErr result (self.new ≡ self.old) }
+    {
+        self.vertices.insert(v, vertex)?;
+        Ok(())
+    }
+
+    /// Puts a vertex at a name that has one, and does nothing at another name. It takes no memory.
+    pub fn replace(&mut self, v: Name, vertex: Vertex)
+        ensures vertices { self.new ≡ option_map_or (λ _. finite.insert self.old v vertex) (finite.get self.old v) self.old }
+        ensures len { finite.len self.new ≡ finite.len self.old }
+    {
+        if let Some(place) = self.vertices.get_mut(&v) {
+            *place = vertex;
+        }
+    }
+
+    /// The names, ascending.
+    pub fn names(&self, alloc: Global) -> Result<NameSet, AllocError>
+        ensures { IfOk result (λ names. names ≡ finite.keys self.now) }
+    {
+        let mut names = NameSet::new(alloc);
+        for name in self.vertices.keys() {
+            push_name(&mut names, *name)?;
+        }
+        Ok(names)
+    }
+
+    /// The points, in the order of the names.
+    pub fn points(&self, alloc: Global) -> Result<Points, AllocError>
+        ensures { IfOk result (λ points. points ≡ map (λ x. x.point) (finite.values self.now)) }
+    {
+        let points = points_in(alloc, &self.vertices)?;
+        Ok(List::from_vec(points))
+    }
+}
+
+fn points_in(alloc: Global, vertices: &BTreeMap<Name, Vertex>) -> Result<Vec<Point>, AllocError>
+    ensures points { IfOk result (λ points. points.items ≡ map (λ x. x.point) (values vertices.now)) }
+    ensures ordered { IsOrdered nat_cmp vertices.now }
+{
+    vertices.values().map(|x| x.point).collect(alloc)
+}
+
+fn push_name(names: &mut NameSet, name: Name) -> Result<(), AllocError>
+    requires { IsAboveLast name names.old }
+    ensures { OnOk result (names.new ≡ names.old ++ name ∷ []) }
+{
+    match names.push(name) {
+        Ok(()) => Ok(()),
+        Err(_) => Err(AllocError),
+    }
+}
