@@ -1,0 +1,78 @@
+//! The program `oemm`: edits a triangle mesh by a script.
+#![tactic(auto)]
+
+use mesh_data::CommandWords;
+use oemm_io::{FileSink, FileSource, StdSink};
+use oemm_run::{End, Io, WordsFault, end_text, roles, run, status};
+use std::alloc::AllocError;
+use std::process::ExitCode;
+use std::rt::{Env, Files};
+use std::{env, io, str};
+
+fn main(rt: HostRuntime) -> ExitCode {
+    let end = match command_words(&rt) {
+        Ok(words) => perform(&rt, &words).unwrap_or(End::Memory),
+        Err(end) => end,
+    };
+    let _ = tell(&rt, &end);
+    ExitCode::from(status(&end))
+}
+
+/// The words of the command line after the program's name. A word that isn't UTF-8 is in no form.
+fn command_words<R: Env + AllocGlobal>(rt: &R) -> Result<CommandWords, End> {
+    let args = match env::args(rt) {
+        Ok(args) => args,
+        Err(error) if error.kind() == io::ErrorKind::OutOfMemory => return Err(End::Memory),
+        Err(_) => return Err(End::Usage),
+    };
+    let mut words = CommandWords::new(rt.alloc());
+    for word in args.skip(1) {
+        if words.push(word.as_str()).is_err() {
+            return Err(End::Memory);
+        }
+    }
+    Ok(words)
+}
+
+/// Does what the words ask for, on files and standard output.
+fn perform<R: Files + Print + AllocGlobal + Clone + Drop>(
+    rt: &R,
+    words: &CommandWords,
+) -> Result<End, AllocError> {
+    let roles = match roles(words) {
+        Ok(roles) => roles,
+        Err(WordsFault::Usage) => return Ok(End::Usage),
+        Err(WordsFault::Memory) => return Err(AllocError),
+    };
+    let io = Io {
+        mesh: FileSource::new(rt.clone()?, path_at(rt, words, roles.mesh)?),
+        script: FileSource::new(rt.clone()?, path_at(rt, words, roles.script)?),
+        out: FileSink::new(rt.clone()?, path_at(rt, words, roles.out)?),
+        report: StdSink::new(rt.clone()?),
+    };
+    let (_io, end) = run(rt.alloc(), words, io);
+    Ok(end)
+}
+
+/// The path that a word names, or an empty one.
+fn path_at<R: AllocGlobal>(
+    rt: &R,
+    words: &CommandWords,
+    place: Option<u32>,
+) -> Result<String, AllocError> {
+    match place {
+        Some(place) if (place as usize) < words.len() => {
+            String::from_str(rt.alloc(), words.at(place as usize).as_str())
+        }
+        _ => Ok(String::new(rt.alloc())),
+    }
+}
+
+/// Tells on standard error how the command ended, unless all was done.
+fn tell<R: Eprint + AllocGlobal>(rt: &R, end: &End) -> io::Result<()> {
+    let text = end_text(rt.alloc(), end)?;
+    match str::from_utf8(text.slice()) {
+        Ok(text) => rt.eprint(text),
+        Err(_) => Ok(()),
+    }
+}

@@ -1,0 +1,50 @@
+-- What contracts see of the objects that a command reads and writes.
+use Rattle.std.specs.Prelude.{◌≡◌, ℕ, ◌≤◌, Bool, true, List}
+use Rattle.fault_counts.specs.Counts.{Rose, IsCalm}
+use Rattle.fault_counts.specs.Told.{Told, Puts, PutsFront}
+
+-- a source: the bytes that it has left, if it tells them, and how often it has failed
+pub record Input : Type 0 where
+  pub left : Told
+  pub faults : ℕ
+
+-- a sink: the bytes that it holds, if it tells them, how often it has failed, and whether it is finished
+pub record Output : Type 0 where
+  pub held : Told
+  pub faults : ℕ
+  pub finished : Bool
+
+pub record Outside : Type 0 where
+  pub mesh : Input
+  pub script : Input
+  pub out : Output
+  pub report : Output
+
+-- the text was put, all of it and nothing else, and the sink is finished
+pub record Wrote (before after : Output) (text : List ℕ) : Type 0 where
+  pub whole : Puts before.held after.held text
+  pub finished : after.finished ≡ true
+
+-- the sink failed, and a front of the text was put
+pub record FailedIn (before after : Output) (text : List ℕ) : Type 0 where
+  pub cause : Rose before.faults after.faults
+  pub front : PutsFront before.held after.held text
+
+-- both sinks are as they were
+pub record IsUntouched (before after : Outside) : Type 0 where
+  pub out : after.out ≡ before.out
+  pub report : after.report ≡ before.report
+
+-- no count of faults has fallen
+pub record KeepsCounts (before after : Outside) : Type 0 where
+  pub mesh : before.mesh.faults ≤ after.mesh.faults
+  pub script : before.script.faults ≤ after.script.faults
+  pub out : before.out.faults ≤ after.out.faults
+  pub report : before.report.faults ≤ after.report.faults
+
+-- nothing has failed, and no count of faults stands at its end
+pub record AllCalm (before after : Outside) : Type 0 where
+  pub mesh : IsCalm before.mesh.faults after.mesh.faults
+  pub script : IsCalm before.script.faults after.script.faults
+  pub out : IsCalm before.out.faults after.out.faults
+  pub report : IsCalm before.report.faults after.report.faults

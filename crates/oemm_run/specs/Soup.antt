@@ -1,0 +1,76 @@
+-- The points and faces of a mesh's source, up to the limits of this command.
+use Rattle.std.specs.Prelude.{◌≡◌, ℕ, ◌≤◌, ◌++◌, nat_lt, List, [], ◌∷◌, map, length, All, Option, Some, None, Result, Ok, Err, IfSome, ⊤, if◌then◌else◌}
+use Rattle.mesh_data.specs.declared.geometry.Point.{Point}
+use Rattle.mesh_data.specs.declared.geometry.Tri.{Tri}
+use Rattle.mesh_data.specs.declared.items.Item.{Item}
+use Rattle.mesh_data.specs.declared.items.Item.TheVariants.{Counts, Vertex, Face}
+use Rattle.mesh_data.specs.declared.items.MeshFault.{MeshFault}
+use Rattle.mesh_data.specs.declared.items.MeshFault.TheVariants.{Read, Text, TooMany, Memory}
+use Rattle.mesh_data.specs.declared.items.What.TheVariants.{Vertices, MeshBytes}
+use Rattle.mesh_data.specs.Triangles.{IsProper, IsBelow}
+use Rattle.mesh_data.specs.Reading.{Reading, Given, fault_alone, most_items, soup}
+use Rattle.mesh_data.specs.declared.geometry.Soup.{Soup}
+use Rattle.off_reader.specs.Grammar.{off_reading}
+use Rattle.oemm_io.specs.declared.whole.TakeFault.{TakeFault}
+use Rattle.oemm_io.specs.declared.whole.TakeFault.TheVariants as take
+
+-- the greatest number of vertices of a mesh
+abbrev pub most_vertices : ℕ
+most_vertices = 4096
+
+-- the reading r of these items, which stops at a count of vertices above the limit
+abbrev pub limited_by : Reading → List Item → Reading
+limited_by r (Counts v f ∷ items) = if nat_lt most_vertices v then fault_alone (TooMany Vertices v) else r
+limited_by r items = r
+
+abbrev pub limited : Reading → Reading
+limited r = limited_by r r.items
+
+-- the reading with these items at its front
+abbrev pub behind_all : List Item → Reading → Reading
+behind_all front r = record { items = front ++ r.items; fault = r.fault }
+
+-- this fault of the text stands behind the items, where they are told
+abbrev pub StopsAt : Option Reading → MeshFault → Type 0
+StopsAt reading Read = ⊤
+StopsAt reading Memory = ⊤
+StopsAt reading (Text at why) = IfSome reading (λ r. r.fault ≡ Some (Text at why))
+StopsAt reading (TooMany what count) = IfSome reading (λ r. r.fault ≡ Some (TooMany what count))
+
+-- what was given once the counts, some vertices and some faces were
+abbrev pub given_of : ℕ → ℕ → ℕ → ℕ → Given
+given_of v f vertices faces = record { counts = Some (v, f); vertices = vertices; faces = faces; fault = None }
+
+-- the points and faces of a mesh within the limits
+pub record IsSoup (s : Soup) : Type 0 where
+  pub points : length s.points ≤ most_vertices
+  pub faces : length s.faces ≤ most_items
+  pub proper : All IsProper s.faces
+  pub below : All (IsBelow (length s.points)) s.faces
+
+-- a fault that is answered is that of the text; one of the source and want of memory say nothing of the text
+abbrev pub GivesMeshFault : {A : Type 0} → MeshFault → Result A MeshFault → Type 0
+GivesMeshFault Read reading = ⊤
+GivesMeshFault Memory reading = ⊤
+GivesMeshFault (Text at why) reading = reading ≡ Err (Text at why)
+GivesMeshFault (TooMany what count) reading = reading ≡ Err (TooMany what count)
+
+-- what is answered is what the reading leads to
+abbrev pub GivesSoup : Result Soup MeshFault → Result Soup MeshFault → Type 0
+GivesSoup (Ok s) reading = reading ≡ Ok s
+GivesSoup (Err fault) reading = GivesMeshFault fault reading
+
+-- the greatest number of bytes of a mesh
+abbrev pub most_mesh_bytes : ℕ
+most_mesh_bytes = 67108864
+
+-- The points and faces of a mesh's bytes, or the first fault. The limit of bytes stands before each fault of the text.
+unfoldable pub soup_of : List ℕ → Result Soup MeshFault
+soup_of bytes =
+    if nat_lt most_mesh_bytes (length bytes) then Err (TooMany MeshBytes most_mesh_bytes) else soup (limited (off_reading bytes))
+
+-- how a fault of a source that can't be taken whole is told
+abbrev pub fault_of_take : TakeFault → MeshFault
+fault_of_take take.Failed = Read
+fault_of_take take.TooMany = TooMany MeshBytes most_mesh_bytes
+fault_of_take take.Memory = Memory

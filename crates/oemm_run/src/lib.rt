@@ -1,0 +1,21 @@
+//! The top call: what the program does, from the words of the command line on.
+#![tactic(auto)]
+
+mod end;
+mod io;
+mod mesh_source;
+mod orders;
+mod phases;
+mod play;
+mod soup;
+mod summary;
+mod tellings;
+mod top;
+mod words;
+
+pub use end::{End, status};
+pub use io::{Io, Seen};
+pub use orders::{Order, Roles, WordsFault};
+pub use tellings::end_text;
+pub use top::run;
+pub use words::{read_words, roles};

@@ -1,0 +1,50 @@
+//! The phases of a run.
+
+ghost use Rattle.std.specs.Prelude.{◌≡◌};
+ghost use Rattle.oemm_run.specs.Phases.{end_of_mesh, end_of_script, WritesGive, output};
+
+use crate::end::End;
+use edit_script::ScriptFault;
+use mesh_data::{Bytes, MeshFault};
+use oemm_io::{Sink, put_all};
+
+/// How a run ends whose mesh can't be read.
+pub fn end_of_mesh(fault: MeshFault) -> End
+    ensures { result ≡ end_of_mesh fault }
+{
+    match fault {
+        MeshFault::Read => End::ReadMesh,
+        MeshFault::Text { at, why } => End::MeshText { at, why },
+        MeshFault::TooMany { what, count } => End::Limit { what, count },
+        MeshFault::Memory => End::Memory,
+    }
+}
+
+/// How a run ends whose script can't be read.
+pub fn end_of_script(fault: ScriptFault) -> End
+    ensures { result ≡ end_of_script fault }
+{
+    match fault {
+        ScriptFault::Read => End::ReadScript,
+        ScriptFault::Syntax { line, why } => End::ScriptText { line, why },
+        ScriptFault::TooMany { what, count } => End::Limit { what, count },
+        ScriptFault::Memory => End::Memory,
+    }
+}
+
+/// Writes the mesh, all of it, and then the report.
+pub fn write_both<O: Sink, R: Sink>(out: O, report: R, mesh: &[u8], text: &[u8]) -> (O, R, End)
+    ensures { WritesGive (output (O.held out) (O.faults out) (O.finished out)) (output (O.held result.0) (O.faults result.0) (O.finished result.0))
+        (output (R.held report) (R.faults report) (R.finished report)) (output (R.held result.1) (R.faults result.1) (R.finished result.1))
+        mesh.now text.now result.2 }
+{
+    let (out, written) = put_all(out, mesh);
+    if written.is_err() {
+        return (out, report, End::WriteOut);
+    }
+    let (report, written) = put_all(report, text);
+    if written.is_err() {
+        return (out, report, End::WriteReport);
+    }
+    (out, report, End::Done)
+}
