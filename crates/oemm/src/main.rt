@@ -1,6 +1,11 @@
 //! The program `oemm`: edits a triangle mesh by a script.
 #![tactic(auto)]
 
+ghost use Rattle.std.specs.Prelude.{◌≡◌, None, Ok, IfOk};
+ghost use Rattle.std.specs.String.{string_bytes};
+ghost use Rattle.oemm_run.specs.Words.{order_of};
+ghost use Rattle.oemm.specs.Paths.{path_of};
+
 use mesh_data::CommandWords;
 use oemm_io::{FileSink, FileSource, StdSink};
 use oemm_run::{End, Io, WordsFault, end_text, roles, run, status};
@@ -38,7 +43,10 @@ fn command_words<R: Env + AllocGlobal>(rt: &R) -> Result<CommandWords, End> {
 fn perform<R: Files + Print + AllocGlobal + Clone + Drop>(
     rt: &R,
     words: &CommandWords,
-) -> Result<End, AllocError> {
+) -> Result<End, AllocError>
+    ensures usage { order_of words.now ≡ None → IfOk result (λ end. end ≡ End.Usage) }
+    ensures form { result ≡ Ok End.Usage → order_of words.now ≡ None }
+{
     let roles = match roles(words) {
         Ok(roles) => roles,
         Err(WordsFault::Usage) => return Ok(End::Usage),
@@ -59,7 +67,9 @@ fn path_at<R: AllocGlobal>(
     rt: &R,
     words: &CommandWords,
     place: Option<u32>,
-) -> Result<String, AllocError> {
+) -> Result<String, AllocError>
+    ensures { IfOk result (λ path. string_bytes path ≡ path_of words.now place) }
+{
     match place {
         Some(place) if (place as usize) < words.len() => {
             String::from_str(rt.alloc(), words.at(place as usize).as_str())

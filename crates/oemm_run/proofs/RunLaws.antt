@@ -128,17 +128,20 @@ done_writes words before after s tasks good done =
     subst (λ t. WritesPlay before after t tasks) soups
     (subst (λ ts. WritesPlay before after done.soup ts) scripts (writes_play before after done.soup done.tasks done.out done.report))
 
+ends_done : (words : List (List ℕ)) (before after : Outside) (end : End) → RunGives words before after end → (s : Soup) (tasks : List Task) → HasGoodInput words before s tasks → end ≡ Done → WritesPlay before after s tasks
+ends_done words before after Done gives s tasks good e = done_writes words before after s tasks good gives
+ends_done words before after Usage gives s tasks good e = absurd (cc)
+ends_done words before after ReadMesh gives s tasks good e = absurd (cc)
+ends_done words before after ReadScript gives s tasks good e = absurd (cc)
+ends_done words before after (MeshText at why) gives s tasks good e = absurd (cc)
+ends_done words before after (ScriptText line why) gives s tasks good e = absurd (cc)
+ends_done words before after WriteOut gives s tasks good e = absurd (cc)
+ends_done words before after WriteReport gives s tasks good e = absurd (cc)
+ends_done words before after (Limit what count) gives s tasks good e = absurd (cc)
+ends_done words before after Memory gives s tasks good e = absurd (cc)
+
 pub headline : (words : List (List ℕ)) (before after : Outside) (end : End) → RunGives words before after end → Headline words before after end
-headline words before after Done gives s tasks good e = done_writes words before after s tasks good gives
-headline words before after Usage gives s tasks good e = absurd (cc)
-headline words before after ReadMesh gives s tasks good e = absurd (cc)
-headline words before after ReadScript gives s tasks good e = absurd (cc)
-headline words before after (MeshText at why) gives s tasks good e = absurd (cc)
-headline words before after (ScriptText line why) gives s tasks good e = absurd (cc)
-headline words before after WriteOut gives s tasks good e = absurd (cc)
-headline words before after WriteReport gives s tasks good e = absurd (cc)
-headline words before after (Limit what count) gives s tasks good e = absurd (cc)
-headline words before after Memory gives s tasks good e = absurd (cc)
+headline words before after end gives = record { writes = ends_done words before after end gives }
 
 -- ---- completeness
 

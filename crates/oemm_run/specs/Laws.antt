@@ -49,9 +49,8 @@ pub record WritesPlay (before after : Outside) (s : Soup) (tasks : List Task) : 
   pub report : Wrote before.report after.report (journal_text 0 journal ++ summary mesh)
 
 -- a run that ends Done on input that is told has written the play of the script
-abbrev pub Headline : List (List ℕ) → Outside → Outside → End → Type 0
-Headline words before after end =
-    (s : Soup) (tasks : List Task) → HasGoodInput words before s tasks → end ≡ Done → WritesPlay before after s tasks
+pub record Headline (words : List (List ℕ)) (before after : Outside) (end : End) : Type 0 where
+  pub writes : (s : Soup) (tasks : List Task) → HasGoodInput words before s tasks → end ≡ Done → WritesPlay before after s tasks
 
 -- where the input is good and nothing fails, all is done
 abbrev pub IsComplete : List (List ℕ) → Outside → Outside → End → Type 0

@@ -19,3 +19,6 @@ pub use orders::{Order, Roles, WordsFault};
 pub use tellings::end_text;
 pub use top::run;
 pub use words::{read_words, roles};
+
+#[cfg(test)]
+mod tests;

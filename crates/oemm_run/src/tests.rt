@@ -1,0 +1,298 @@
+use super::*;
+use mesh_data::{CommandWords, MeshWhy, ScriptWhy, What};
+use oemm_io::{MemSink, MemSource};
+use std::alloc::{AllocError, Global};
+use std::test::Fail;
+
+const TETRAHEDRON: &str =
+    "OFF\n4 4 0\n0 0 0\n4 0 0\n0 4 0\n0 0 4\n3 0 2 1\n3 0 1 3\n3 0 3 2\n3 1 2 3\n";
+
+const MOVES: &str =
+    "task 0 -32768 -32768 -32768 32767 32767 32767\nmove 0 -1 -1 -1\nmove 9 0 0 0\n";
+
+const MOVED: &str =
+    "OFF\n4 4 0\n-1 -1 -1\n4 0 0\n0 4 0\n0 0 4\n3 0 1 3\n3 0 2 1\n3 0 3 2\n3 1 2 3\n";
+
+const REPORT: &str =
+    "commit 0 lane 0 number 0 box -32768 -32768 -32768 32767 32767 32767\nmove 0 -1 -1 -1\n  done\nmove 9 0 0 0\n  unheld 9\nvertices 4 faces 4 euler 2 border 0\n";
+
+/// Which call of each object fails, counted from 1; 0 is none.
+#[derive(Clone, Copy)]
+struct Failing {
+    mesh: u64,
+    script: u64,
+    out: u64,
+    report: u64,
+}
+
+const NONE: Failing = Failing {
+    mesh: 0,
+    script: 0,
+    out: 0,
+    report: 0,
+};
+
+#[derive(Drop)]
+struct Outcome {
+    end: End,
+    out: Vec<u8>,
+    report: Vec<u8>,
+}
+
+fn words_of(alloc: Global, words: &[&str]) -> Result<CommandWords, AllocError> {
+    let mut all = CommandWords::new(alloc);
+    for word in words {
+        all.push(word)?;
+    }
+    Ok(all)
+}
+
+fn source_of(
+    alloc: Global,
+    text: &[u8],
+    failing: u64,
+    piece: usize,
+) -> Result<MemSource, AllocError> {
+    let bytes = text.to_vec(alloc)?;
+    Ok(MemSource::new(bytes, vec![in alloc; failing]?, piece.max(1)))
+}
+
+fn sink_of(alloc: Global, failing: u64, piece: usize) -> Result<MemSink, AllocError> {
+    MemSink::with_room(alloc, 4096, vec![in alloc; failing]?, piece.max(1))
+}
+
+fn run_on(
+    alloc: Global,
+    words: &[&str],
+    mesh: &[u8],
+    script: &str,
+    piece: usize,
+    failing: Failing,
+) -> Result<Outcome, AllocError> {
+    let words = words_of(alloc, words)?;
+    let io = Io {
+        mesh: source_of(alloc, mesh, failing.mesh, piece)?,
+        script: source_of(alloc, script.as_bytes(), failing.script, piece)?,
+        out: sink_of(alloc, failing.out, piece)?,
+        report: sink_of(alloc, failing.report, piece)?,
+    };
+    let (io, end) = run(alloc, &words, io);
+    let out = io.out.bytes().to_vec(alloc)?;
+    let report = io.report.bytes().to_vec(alloc)?;
+    Ok(Outcome { end, out, report })
+}
+
+const RUN: [&str; 4] = ["run", "m.off", "s.txt", "o.off"];
+
+#[test]
+fn empty_mesh_and_tetrahedron(rt: HostRuntime) -> Result<(), Fail> {
+    for piece in [1, 7, 4096] {
+        let empty = run_on(rt.alloc(), &RUN, b"OFF\n0 0 0\n", "", piece, NONE)?;
+        assert_eq!(rt; empty.end, End::Done);
+        assert_eq!(rt; empty.out.as_slice(), b"OFF\n0 0 0\n".as_slice());
+        assert_eq!(rt;
+            empty.report.as_slice(),
+            b"vertices 0 faces 0 euler 0 border 0\n".as_slice()
+        );
+        let moved = run_on(rt.alloc(), &RUN, TETRAHEDRON.as_bytes(), MOVES, piece, NONE)?;
+        assert_eq!(rt; moved.end, End::Done);
+        assert_eq!(rt; moved.out.as_slice(), MOVED.as_bytes());
+        assert_eq!(rt; moved.report.as_slice(), REPORT.as_bytes());
+    }
+    Ok(())
+}
+
+#[test]
+fn words_in_no_form(rt: HostRuntime) -> Result<(), Fail> {
+    for out in ["c.obj", "c.OFF", "-c.off", "--x.off", ""] {
+        let told = run_on(rt.alloc(), &["run", "a", "b", out], b"", "", 9, NONE)?;
+        assert_eq!(rt; told.end, End::Usage, "{out}");
+    }
+    for command in ["ru", "runs", "-", "build"] {
+        let told = run_on(rt.alloc(), &[command, "a", "b", "c.off"], b"", "", 9, NONE)?;
+        assert_eq!(rt; told.end, End::Usage, "{command}");
+    }
+    let dash = run_on(
+        rt.alloc(),
+        &["run", "-", "-", ".off"],
+        b"OFF 0 0",
+        "",
+        9,
+        NONE,
+    )?;
+    assert_eq!(rt; dash.end, End::Done);
+    assert_eq!(rt;
+        run_on(rt.alloc(), &["run", "a", "b"], b"", "", 9, NONE)?.end,
+        End::Usage
+    );
+    let words = words_of(rt.alloc(), &RUN)?;
+    assert!(rt; read_words(rt.alloc(), &words).is_ok());
+    assert_eq!(rt; roles(&words).map(|r| r.out), Ok(Some(3)));
+    Ok(())
+}
+
+#[test]
+fn faults_of_the_mesh(rt: HostRuntime) -> Result<(), Fail> {
+    for (mesh, at, why) in [
+        ("", 0, MeshWhy::Cut),
+        ("ply\n", 0, MeshWhy::Head),
+        ("OFF\n1\n", 4, MeshWhy::Words),
+        ("OFF\n1 x\n", 4, MeshWhy::Number),
+        (
+            "OFF\n1 0\n0 0 32768\n",
+            8,
+            MeshWhy::OutOfRange { vertex: 0 },
+        ),
+        (
+            "OFF\n3 1\n0 0 0\n1 1 1\n2 2 2\n4 0 1 2\n",
+            26,
+            MeshWhy::NotTriangle { face: 0 },
+        ),
+        (
+            "OFF\n3 1\n0 0 0\n1 1 1\n2 2 2\n3 0 1 3\n",
+            26,
+            MeshWhy::BadIndex { face: 0 },
+        ),
+        (
+            "OFF\n3 1\n0 0 0\n1 1 1\n2 2 2\n3 0 1 1\n",
+            26,
+            MeshWhy::Repeated { face: 0 },
+        ),
+    ] {
+        let told = run_on(rt.alloc(), &RUN, mesh.as_bytes(), MOVES, 7, NONE)?;
+        assert_eq!(rt; told.end, End::MeshText { at, why }, "{mesh}");
+        assert!(rt; told.out.is_empty() && told.report.is_empty());
+    }
+    for (mesh, what, count) in [
+        ("OFF\n4097 0 0\n", What::Vertices, 4097),
+        ("OFF\n16777217 0 0\n", What::Vertices, 16777217),
+        ("OFF\n4096 16777217\n", What::Faces, 16777217),
+    ] {
+        let told = run_on(rt.alloc(), &RUN, mesh.as_bytes(), "", 7, NONE)?;
+        assert_eq!(rt; told.end, End::Limit { what, count }, "{mesh}");
+    }
+    Ok(())
+}
+
+#[test]
+fn faults_of_the_script(rt: HostRuntime) -> Result<(), Fail> {
+    for (script, line, why) in [
+        ("flip 0 1\n", 1, ScriptWhy::Word),
+        ("\nmove 0 1\n", 2, ScriptWhy::Words),
+        ("task 0 x 0 0 1 1 1\n", 1, ScriptWhy::Number),
+        ("task 64 0 0 0 1 1 1\n", 1, ScriptWhy::Lane),
+        ("task 0 5 0 0 4 0 0\n", 1, ScriptWhy::Box),
+        ("move 0 1 1 1\n", 1, ScriptWhy::NoTask),
+    ] {
+        let told = run_on(rt.alloc(), &RUN, TETRAHEDRON.as_bytes(), script, 7, NONE)?;
+        assert_eq!(rt; told.end, End::ScriptText { line, why }, "{script}");
+        assert!(rt; told.out.is_empty() && told.report.is_empty());
+    }
+    Ok(())
+}
+
+#[test]
+fn cut_meshes(rt: HostRuntime) -> Result<(), Fail> {
+    let text = TETRAHEDRON.as_bytes();
+    for len in 0..text.len() - 1 {
+        let told = run_on(rt.alloc(), &RUN, &text[..len], "", 4096, NONE)?;
+        assert_ne!(rt; told.end, End::Done, "{len}");
+        assert!(rt; told.out.is_empty() && told.report.is_empty());
+    }
+    Ok(())
+}
+
+#[test]
+fn failing_calls(rt: HostRuntime) -> Result<(), Fail> {
+    let text = TETRAHEDRON.as_bytes();
+    for call in 1..4 {
+        let mesh = run_on(
+            rt.alloc(),
+            &RUN,
+            text,
+            MOVES,
+            40,
+            Failing { mesh: call, ..NONE },
+        )?;
+        assert_eq!(rt; mesh.end, End::ReadMesh);
+        let script = run_on(
+            rt.alloc(),
+            &RUN,
+            text,
+            MOVES,
+            40,
+            Failing {
+                script: call,
+                ..NONE
+            },
+        )?;
+        assert_eq!(rt; script.end, End::ReadScript);
+        assert!(rt; script.out.is_empty() && script.report.is_empty());
+        let out = run_on(
+            rt.alloc(),
+            &RUN,
+            text,
+            MOVES,
+            40,
+            Failing { out: call, ..NONE },
+        )?;
+        assert_eq!(rt; out.end, End::WriteOut);
+        assert!(rt; MOVED.as_bytes().starts_with(out.out.as_slice()) && out.report.is_empty());
+        let report = run_on(
+            rt.alloc(),
+            &RUN,
+            text,
+            MOVES,
+            40,
+            Failing {
+                report: call,
+                ..NONE
+            },
+        )?;
+        assert_eq!(rt; report.end, End::WriteReport);
+        assert_eq!(rt; report.out.as_slice(), MOVED.as_bytes());
+        assert!(rt; REPORT.as_bytes().starts_with(report.report.as_slice()));
+    }
+    Ok(())
+}
+
+#[test]
+fn ends_are_told(rt: HostRuntime) -> Result<(), Fail> {
+    for (end, code, text) in [
+        (End::Done, 0, ""),
+        (End::Usage, 1, "oemm: usage\n"),
+        (End::ReadMesh, 2, "oemm: mesh can't be read\n"),
+        (End::ReadScript, 2, "oemm: script can't be read\n"),
+        (
+            End::MeshText {
+                at: 16,
+                why: MeshWhy::OutOfRange { vertex: 1 },
+            },
+            3,
+            "oemm: mesh fault at byte 16: OutOfRange 1\n",
+        ),
+        (
+            End::ScriptText {
+                line: 3,
+                why: ScriptWhy::NoTask,
+            },
+            5,
+            "oemm: script fault in line 3: NoTask\n",
+        ),
+        (End::WriteOut, 7, "oemm: output can't be written\n"),
+        (End::WriteReport, 7, "oemm: report can't be written\n"),
+        (
+            End::Limit {
+                what: What::Vertices,
+                count: 4097,
+            },
+            8,
+            "oemm: limit Vertices: 4097\n",
+        ),
+        (End::Memory, 9, "oemm: no memory\n"),
+    ] {
+        assert_eq!(rt; status(&end), code);
+        assert_eq!(rt; end_text(rt.alloc(), &end)?.slice(), text.as_bytes());
+    }
+    Ok(())
+}
