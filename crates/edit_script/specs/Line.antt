@@ -1,6 +1,7 @@
 -- What a line of a script says, by its words. Within a line the faults come in the order Word, Words, Number, Lane, Box.
-use Rattle.std.specs.Prelude.{ℕ, ◌^◌, nat_lt, Bool, ◌&&◌, bytes_eq, codes, List, [], ◌∷◌, Option, Some, None, Result, Ok, Err, option_and_then, ℤ, pos, negsuc, int_le, if◌then◌else◌}
+use Rattle.std.specs.Prelude.{ℕ, ◌^◌, nat_lt, Bool, ◌&&◌, bytes_eq, codes, List, [], ◌∷◌, Option, Some, None, Result, Ok, Err, option_and_then, ℤ, int_le, if◌then◌else◌}
 use Rattle.oemm_lines.specs.Numbers.{whole_of, integer_of}
+use Rattle.mesh_data.specs.Octree.{on_grid}
 use Rattle.mesh_data.specs.declared.geometry.Point.{Point}
 use Rattle.mesh_data.specs.declared.edits.Edit.TheVariants.{Move}
 use Rattle.mesh_data.specs.declared.items.ScriptWhy.{ScriptWhy}
@@ -13,15 +14,11 @@ infixl 10 ◌>>=◌
 abbrev pub ◌>>=◌ : {A B : Type 0} → Option A → (A → Option B) → Option B
 o >>= f = option_and_then f o
 
--- the number lies on the grid
-abbrev pub is_coordinate : ℤ → Bool
-is_coordinate n = int_le (negsuc 32767) n && int_le n (pos 32767)
-
 -- the coordinate that a word writes
 unfoldable pub coordinate_of : List ℕ → Option ℤ
 coordinate_of word = do
   n ← integer_of word
-  if is_coordinate n then Some n else None
+  if on_grid n then Some n else None
 
 -- the point that three words write
 unfoldable pub point_of : List ℕ → List ℕ → List ℕ → Option Point

@@ -1,6 +1,6 @@
 -- The bytes of an object of the outside, or None where it doesn't tell them. Each word is an equation or a
 -- fact about what is told, so that what tells goes on telling, and what doesn't never begins to.
-use Rattle.std.specs.Prelude.{◌≡◌, ℕ, ◌≤◌, List, [], ◌++◌, length, take, Option, Some, None, IfSome}
+use Rattle.std.specs.Prelude.{◌≡◌, ℕ, ◌≤◌, List, [], ◌++◌, length, take, Option, IfSome}
 use Rattle.std.specs.Option.{option_map}
 
 -- what is told of an object

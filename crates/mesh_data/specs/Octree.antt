@@ -1,8 +1,12 @@
 -- The octree over the cube of the grid, whose coordinates are -32768 to 32767 along each axis.
-use Rattle.std.specs.Prelude.{ℕ, ◌≤◌, ◌<◌, ◌+◌, ◌-◌, ◌/◌, ◌^◌, Bool, ◌&&◌, ◌==◌, nat_le, ℤ, pos, negsuc, List, [], ◌∷◌, if◌then◌else◌, slice_get}
+use Rattle.std.specs.Prelude.{ℕ, ◌≤◌, ◌<◌, ◌+◌, ◌-◌, ◌/◌, ◌^◌, Bool, ◌&&◌, ◌==◌, nat_le, int_le, ℤ, pos, negsuc, List, [], ◌∷◌, if◌then◌else◌, slice_get}
 use Rattle.std.specs.List.{All, list_any, filter_map}
 use Rattle.mesh_data.specs.declared.geometry.Point.{Point}
 use Rattle.mesh_data.specs.declared.geometry.Cell.{Cell}
+
+-- a number that is a coordinate of the grid
+abbrev pub on_grid : ℤ → Bool
+on_grid n = int_le (negsuc 32767) n && int_le n (pos 32767)
 
 -- how far a coordinate lies above the low end of its axis
 unfoldable pub from_low : ℤ → ℕ

@@ -1,12 +1,11 @@
 -- What the relation of a run follows from, and what follows from it.
-use Rattle.std.proofs.Common.{◌≡◌, ℕ, Bool, true, false, nat_lt, List, [], ◌∷◌, ◌++◌, length, map, if◌then◌else◌, Option, Some, None, Result, Ok, Err, IfSome, IsSome, refl, sym, subst, ap, ◌∙◌, inl, inr, arith}
+use Rattle.std.proofs.Common.{◌≡◌, ℕ, Bool, true, false, nat_lt, List, [], ◌∷◌, length, map, if◌then◌else◌, Some, None, Result, Ok, Err, IfSome, IsSome, refl, subst, ap, ◌∙◌, inl, inr, arith}
 use Rattle.std.proofs.lemmas.Bool.{false≢true}
 use Rattle.fault_counts.specs.Counts.{Rose, IsCalm}
 use Rattle.fault_counts.specs.Told.{Told}
 use Rattle.mesh_data.specs.declared.geometry.Cell.{Cell}
 use Rattle.mesh_data.specs.declared.geometry.Soup.{Soup}
 use Rattle.mesh_data.specs.declared.edits.Task.{Task}
-use Rattle.mesh_data.specs.declared.edits.Entry.{Entry}
 use Rattle.mesh_data.specs.declared.items.MeshFault.{MeshFault}
 use Rattle.mesh_data.specs.Mesh.{Mesh, start}
 use Rattle.mesh_data.specs.Octree.{core_of, area_of, is_inside}
@@ -17,7 +16,7 @@ use Rattle.edit_script.specs.Grammar.{script_of}
 use Rattle.oemm_run.specs.declared.end.End.{End}
 use Rattle.oemm_run.specs.declared.end.End.TheVariants.{Done, Usage, ReadMesh, ReadScript, MeshText, ScriptText, WriteOut, WriteReport, Limit, Memory}
 use Rattle.oemm_run.specs.Laws.{HasGoodMesh, HasGoodInput, WritesPlay, Headline, IsComplete, TellsUsage, TellsMeshFault, TellsScriptFault}
-use Rattle.oemm_run.specs.Outside.{Outside, Output, Wrote, FailedIn}
+use Rattle.oemm_run.specs.Outside.{Outside, Wrote, FailedIn}
 use Rattle.oemm_run.specs.Phases.{WritesTexts, end_of_mesh, end_of_script}
 use Rattle.oemm_run.specs.Run.{RunGives, AreRun, HasMesh, HasScript, HasMeshFault, HasScriptFault, IsDone, played, report_text, one_leaf, core_limit}
 use Rattle.oemm_run.specs.Soup.{soup_of}

@@ -1,11 +1,10 @@
 -- What the bytes of a source lead to.
-use Rattle.std.proofs.Common.{◌≡◌, ℕ, ◌≤◌, ◌<◌, List, [], ◌∷◌, ◌++◌, length, Option, Some, None, Result, Ok, Err, IfSome, refl, sym, ap, ◌∙◌, subst, cond, append-nil}
+use Rattle.std.proofs.Common.{◌≡◌, ℕ, ◌≤◌, ◌<◌, List, ◌++◌, length, Some, None, Result, Err, IfSome, refl, sym, ap, ◌∙◌, subst, cond, append-nil}
 use Rattle.std.proofs.lemmas.Bool.{le-ltb, lt-ltb}
-use Rattle.std.specs.Option.{option_map}
 use Rattle.fault_counts.specs.Told.{Told, Takes, IsAtEnd}
 use Rattle.mesh_data.specs.declared.geometry.Soup.{Soup}
 use Rattle.mesh_data.specs.declared.items.MeshFault.{MeshFault}
-use Rattle.mesh_data.specs.declared.items.MeshFault.TheVariants.{Read, Text, TooMany, Memory}
+use Rattle.mesh_data.specs.declared.items.MeshFault.TheVariants.{TooMany}
 use Rattle.mesh_data.specs.declared.items.What.TheVariants.{MeshBytes}
 use Rattle.mesh_data.specs.Reading.{soup}
 use Rattle.off_reader.specs.Grammar.{off_reading}

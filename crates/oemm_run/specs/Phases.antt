@@ -6,7 +6,7 @@ use Rattle.mesh_data.specs.declared.items.MeshFault.TheVariants as mesh
 use Rattle.edit_script.specs.declared.fault.ScriptFault.{ScriptFault}
 use Rattle.edit_script.specs.declared.fault.ScriptFault.TheVariants as script
 use Rattle.oemm_run.specs.declared.end.End.{End}
-use Rattle.oemm_run.specs.declared.end.End.TheVariants.{Done, Usage, ReadMesh, ReadScript, MeshText, ScriptText, WriteOut, WriteReport, Limit, Memory}
+use Rattle.oemm_run.specs.declared.end.End.TheVariants.{Done, ReadMesh, ReadScript, MeshText, ScriptText, WriteOut, WriteReport, Limit, Memory}
 use Rattle.oemm_run.specs.Outside.{Output, Wrote, FailedIn}
 
 -- how a run ends whose mesh can't be read

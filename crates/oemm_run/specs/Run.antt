@@ -1,10 +1,9 @@
 -- What a run gives: one relation, by cases on its end. The phases are words, mesh, script, tasks, out and report.
-use Rattle.std.specs.Prelude.{◌≡◌, ℕ, ◌≤◌, ◌⊎◌, List, [], ◌∷◌, ◌++◌, Option, Some, None, Result, Ok, Err, IfSome, IsSome, ⊤}
-use Rattle.fault_counts.specs.Counts.{Rose, IsCalm}
+use Rattle.std.specs.Prelude.{◌≡◌, ℕ, ◌⊎◌, List, [], ◌∷◌, ◌++◌, None, Ok, Err, IfSome, IsSome, ⊤}
+use Rattle.fault_counts.specs.Counts.{Rose}
 use Rattle.mesh_data.specs.declared.geometry.Cell.{Cell}
 use Rattle.mesh_data.specs.declared.geometry.Soup.{Soup}
 use Rattle.mesh_data.specs.declared.edits.Task.{Task}
-use Rattle.mesh_data.specs.declared.items.What.{What}
 use Rattle.mesh_data.specs.declared.items.MeshFault.{MeshFault}
 use Rattle.mesh_data.specs.declared.items.MeshFault.TheVariants as mesh
 use Rattle.mesh_data.specs.Mesh.{start}
@@ -17,7 +16,7 @@ use Rattle.edit_script.specs.declared.fault.ScriptFault.TheVariants as script
 use Rattle.edit_script.specs.Grammar.{script_of}
 use Rattle.oemm_run.specs.declared.end.End.{End}
 use Rattle.oemm_run.specs.declared.end.End.TheVariants.{Done, Usage, ReadMesh, ReadScript, MeshText, ScriptText, WriteOut, WriteReport, Limit, Memory}
-use Rattle.oemm_run.specs.Outside.{Outside, Wrote, FailedIn, IsUntouched, AllCalm}
+use Rattle.oemm_run.specs.Outside.{Outside, Wrote, FailedIn, IsUntouched}
 use Rattle.oemm_run.specs.Report.{summary}
 use Rattle.oemm_run.specs.Soup.{soup_of}
 use Rattle.oemm_run.specs.Words.{order_of}

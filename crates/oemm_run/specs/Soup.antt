@@ -1,9 +1,7 @@
 -- The points and faces of a mesh's source, up to the limits of this command.
-use Rattle.std.specs.Prelude.{◌≡◌, ℕ, ◌≤◌, ◌++◌, nat_lt, List, [], ◌∷◌, map, length, All, Option, Some, None, Result, Ok, Err, IfSome, ⊤, if◌then◌else◌}
-use Rattle.mesh_data.specs.declared.geometry.Point.{Point}
-use Rattle.mesh_data.specs.declared.geometry.Tri.{Tri}
+use Rattle.std.specs.Prelude.{◌≡◌, ℕ, ◌≤◌, ◌++◌, nat_lt, List, ◌∷◌, length, All, Option, Some, None, Result, Ok, Err, IfSome, ⊤, if◌then◌else◌}
 use Rattle.mesh_data.specs.declared.items.Item.{Item}
-use Rattle.mesh_data.specs.declared.items.Item.TheVariants.{Counts, Vertex, Face}
+use Rattle.mesh_data.specs.declared.items.Item.TheVariants.{Counts}
 use Rattle.mesh_data.specs.declared.items.MeshFault.{MeshFault}
 use Rattle.mesh_data.specs.declared.items.MeshFault.TheVariants.{Read, Text, TooMany, Memory}
 use Rattle.mesh_data.specs.declared.items.What.TheVariants.{Vertices, MeshBytes}

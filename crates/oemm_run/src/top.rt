@@ -29,59 +29,28 @@ fn run_phases<M: Source, S: Source, O: Sink, R: Sink>(
     if !are_run(words) {
         return (io, End::Usage);
     }
-    let Io {
-        mesh,
-        script,
-        out,
-        report,
-    } = io;
-    let (mesh, soup) = read_mesh(alloc, mesh);
+    let (mesh, soup) = read_mesh(alloc, io.mesh);
+    let io = Io { mesh, ..io };
     let soup = match soup {
         Ok(soup) => soup,
-        Err(fault) => return (
-            Io {
-                mesh,
-                script,
-                out,
-                report,
-            },
-            end_of_mesh(fault),
-        ),
+        Err(fault) => return (io, end_of_mesh(fault)),
     };
-    let (script, read) = read_script(alloc, script);
+    let (script, read) = read_script(alloc, io.script);
+    let io = Io { script, ..io };
     let read = match read {
         Ok(read) => read,
-        Err(fault) => return (
-            Io {
-                mesh,
-                script,
-                out,
-                report,
-            },
-            end_of_script(fault),
-        ),
+        Err(fault) => return (io, end_of_script(fault)),
     };
     let Ok(texts) = texts_of(alloc, &soup, read.tasks.slice()) else {
-        return (
-            Io {
-                mesh,
-                script,
-                out,
-                report,
-            },
-            End::Memory,
-        );
+        return (io, End::Memory);
     };
-    let (out, report, end) = write_both(out, report, texts.mesh.slice(), texts.report.slice());
-    (
-        Io {
-            mesh,
-            script,
-            out,
-            report,
-        },
-        end,
-    )
+    let (out, report, end) = write_both(
+        io.out,
+        io.report,
+        texts.mesh.slice(),
+        texts.report.slice(),
+    );
+    (Io { out, report, ..io }, end)
 }
 
 /// Does what the words ask for, on one thread: reads a mesh and a script, does the script's tasks one by one on the

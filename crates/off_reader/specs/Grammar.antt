@@ -1,8 +1,9 @@
 -- What an OFF mesh says, as a function of those of its lines that have words.
 -- Of each line, at is the number of bytes before it, and its words are looked at one by one.
-use Rattle.std.specs.Prelude.{◌≡◌, ℕ, ◌+◌, ◌-◌, ◌^◌, Bool, false, ◌&&◌, ◌||◌, ◌==◌, nat_lt, nat_le, int_le, ℤ, pos, negsuc, List, [], ◌∷◌, length, drop, if◌then◌else◌, Option, Some, None, Result, Ok, Err, ⊤}
+use Rattle.std.specs.Prelude.{◌≡◌, ℕ, ◌+◌, ◌-◌, ◌^◌, Bool, false, ◌||◌, ◌==◌, nat_lt, nat_le, ℤ, pos, negsuc, List, [], ◌∷◌, length, drop, if◌then◌else◌, Option, Some, None, Result, Ok, Err, ⊤}
 use Rattle.std.specs.Option.{ok_or}
 use Rattle.std.specs.Str.{bytes_eq}
+use Rattle.mesh_data.specs.Octree.{on_grid}
 use Rattle.mesh_data.specs.declared.geometry.Point.{Point}
 use Rattle.mesh_data.specs.declared.geometry.Tri.{Tri}
 use Rattle.mesh_data.specs.declared.items.Item.{Item}
@@ -58,10 +59,6 @@ counts_of at words = do
   vertices ← next at (count_of at Vertices) words
   faces ← next at (count_of at Faces) vertices.1
   Ok (vertices.0, faces.0)
-
--- whether a coordinate is one of the grid's
-abbrev pub on_grid : ℤ → Bool
-on_grid n = int_le (negsuc 32767) n && int_le n (pos 32767)
 
 -- the coordinate of this vertex that a word writes with an optional minus and digits
 unfoldable pub coordinate_of : ℕ → ℕ → List ℕ → Result ℤ MeshFault

@@ -1,8 +1,8 @@
-use Rattle.std.proofs.Common.{◌≡◌, ◌≤◌, vec_len, arith, sym, subst, ap, ◌∙◌, Result, Err, IfSome}
+use Rattle.std.proofs.Common.{◌≤◌, vec_len, arith, sym, subst, ap, ◌∙◌, Result, Err, IfSome}
 use Rattle.std.proofs.lemmas.Result.{IfOk-at_ok}
 use Rattle.mesh_data.specs.declared.geometry.Soup.{Soup}
 use Rattle.mesh_data.specs.declared.items.MeshFault.{MeshFault}
-use Rattle.oemm_run.specs.Soup.{soup_of, GivesSoup, fault_of_take, most_mesh_bytes}
+use Rattle.oemm_run.specs.Soup.{soup_of, GivesSoup, most_mesh_bytes}
 use Rattle.oemm_run.proofs.Sources.{gives_taken, gives_fault}
 use Rattle.oemm_run.proofs.mesh_source.read_mesh.Goals as goal
 use Rattle.oemm_run.proofs.mesh_source.read_mesh.Goals.{in-Ok, in-Err}

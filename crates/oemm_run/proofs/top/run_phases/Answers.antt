@@ -1,8 +1,7 @@
-use Rattle.std.proofs.Common.{◌≡◌, ◌∙◌, List, Result, Ok, IfSome, sym, subst, rules}
+use Rattle.std.proofs.Common.{◌≡◌, ◌∙◌, List, Ok, IfSome, sym, subst, rules}
 use Rattle.mesh_data.specs.declared.edits.Task.{Task}
 use Rattle.edit_script.specs.Grammar.{script_of}
 use Rattle.edit_script.specs.Script.{GivesScript}
-use Rattle.oemm_run.specs.Run.{HasMesh, HasScript}
 use Rattle.oemm_run.specs.Soup.{soup_of, GivesSoup}
 use Rattle.oemm_run.proofs.RunLaws.{gives_written}
 use Rattle.oemm_run.proofs.top.run_phases.Goals as goal
