@@ -2,7 +2,7 @@
 use Rattle.std.proofs.Common.{◌≡◌, ℕ, Bool, true, false, nat_lt, List, [], ◌∷◌, length, map, if◌then◌else◌, Some, None, Result, Ok, Err, IfSome, IsSome, refl, subst, ap, ◌∙◌, inl, inr, arith}
 use Rattle.std.proofs.lemmas.Bool.{false≢true}
 use Rattle.fault_counts.specs.Counts.{Rose, IsCalm}
-use Rattle.fault_counts.specs.Told.{Told}
+use Rattle.fault_counts.specs.Told.{Told, IsAtEnd}
 use Rattle.mesh_data.specs.declared.geometry.Cell.{Cell}
 use Rattle.mesh_data.specs.declared.geometry.Soup.{Soup}
 use Rattle.mesh_data.specs.declared.edits.Task.{Task}
@@ -24,23 +24,23 @@ use Rattle.oemm_run.specs.Words.{order_of}
 
 -- the texts that are written are the run's
 abbrev Gives : List (List ℕ) → Outside → Outside → List ℕ → List ℕ → Soup → List Task → End → Type 0
-Gives words before after mesh text s tasks end = HasScript words before s tasks → mesh ≡ mesh_bytes (played s tasks).mesh → text ≡ report_text (played s tasks) → WritesTexts before.out after.out before.report after.report mesh text end → RunGives words before after end
+Gives words before after mesh text s tasks end = HasScript words before s tasks → IsAtEnd after.mesh.left → IsAtEnd after.script.left → mesh ≡ mesh_bytes (played s tasks).mesh → text ≡ report_text (played s tasks) → WritesTexts before.out after.out before.report after.report mesh text end → RunGives words before after end
 
 -- once the mesh and the script were read, a run gives what writing gives
 pub gives_written : (words : List (List ℕ)) (before after : Outside) (mesh text : List ℕ) (s : Soup) (tasks : List Task) (end : End) → Gives words before after mesh text s tasks end
-gives_written words before after mesh text s tasks Done read m t w =
-    record { soup = s; tasks = tasks; earlier = read; out = subst (Wrote before.out after.out) m w.0; report = subst (Wrote before.report after.report) t w.1 }
-gives_written words before after mesh text s tasks WriteOut read m t w =
+gives_written words before after mesh text s tasks Done read a b m t w =
+    record { soup = s; tasks = tasks; earlier = read; mesh_end = a; script_end = b; out = subst (Wrote before.out after.out) m w.0; report = subst (Wrote before.report after.report) t w.1 }
+gives_written words before after mesh text s tasks WriteOut read a b m t w =
     record { soup = s; tasks = tasks; earlier = read; out = subst (FailedIn before.out after.out) m w.0; report = w.1 }
-gives_written words before after mesh text s tasks WriteReport read m t w =
+gives_written words before after mesh text s tasks WriteReport read a b m t w =
     record { soup = s; tasks = tasks; earlier = read; out = subst (Wrote before.out after.out) m w.0; report = subst (FailedIn before.report after.report) t w.1 }
-gives_written words before after mesh text s tasks Usage read m t w = absurd w
-gives_written words before after mesh text s tasks ReadMesh read m t w = absurd w
-gives_written words before after mesh text s tasks ReadScript read m t w = absurd w
-gives_written words before after mesh text s tasks (MeshText at why) read m t w = absurd w
-gives_written words before after mesh text s tasks (ScriptText line why) read m t w = absurd w
-gives_written words before after mesh text s tasks (Limit what count) read m t w = absurd w
-gives_written words before after mesh text s tasks Memory read m t w = absurd w
+gives_written words before after mesh text s tasks Usage read a b m t w = absurd w
+gives_written words before after mesh text s tasks ReadMesh read a b m t w = absurd w
+gives_written words before after mesh text s tasks ReadScript read a b m t w = absurd w
+gives_written words before after mesh text s tasks (MeshText at why) read a b m t w = absurd w
+gives_written words before after mesh text s tasks (ScriptText line why) read a b m t w = absurd w
+gives_written words before after mesh text s tasks (Limit what count) read a b m t w = absurd w
+gives_written words before after mesh text s tasks Memory read a b m t w = absurd w
 
 -- ---- the play
 

@@ -1,5 +1,6 @@
 -- What a run gives: one relation, by cases on its end. The phases are words, mesh, script, tasks, out and report.
 use Rattle.std.specs.Prelude.{◌≡◌, ℕ, ◌⊎◌, List, [], ◌∷◌, ◌++◌, None, Ok, Err, IfSome, IsSome, ⊤}
+use Rattle.fault_counts.specs.Told.{IsAtEnd}
 use Rattle.fault_counts.specs.Counts.{Rose}
 use Rattle.mesh_data.specs.declared.geometry.Cell.{Cell}
 use Rattle.mesh_data.specs.declared.geometry.Soup.{Soup}
@@ -62,11 +63,13 @@ pub record HasScriptFault (words : List (List ℕ)) (before : Outside) (fault : 
   pub earlier : HasMesh words before soup
   pub script : IfSome before.script.left (λ bytes. script_of bytes ≡ Err fault)
 
--- all was written: the mesh that the tasks leave, and the report
+-- both sources were read to their ends, and all was written: the mesh that the tasks leave, and the report
 pub record IsDone (words : List (List ℕ)) (before after : Outside) : Type 0 where
   pub soup : Soup
   pub tasks : List Task
   pub earlier : HasScript words before soup tasks
+  pub mesh_end : IsAtEnd after.mesh.left
+  pub script_end : IsAtEnd after.script.left
   pub out : Wrote before.out after.out (mesh_bytes (played soup tasks).mesh)
   pub report : Wrote before.report after.report (report_text (played soup tasks))
 

@@ -1,7 +1,8 @@
 //! The points and faces of a mesh's source.
 
-ghost use Rattle.std.specs.Prelude.{◌≡◌, ◌≢◌, ◌≤◌, ◌^◌, ◌<◌, length, IfOk, IfSome, Err, vec_len};
+ghost use Rattle.std.specs.Prelude.{◌≡◌, ◌≢◌, ◌≤◌, ◌^◌, ◌<◌, length, IfOk, OnOk, IfSome, Err, vec_len};
 ghost use Rattle.fault_counts.specs.Counts.{Rose};
+ghost use Rattle.fault_counts.specs.Told.{IsAtEnd};
 ghost use Rattle.mesh_data.specs.Reading.{soup};
 ghost use Rattle.off_reader.specs.Grammar.{off_reading};
 ghost use Rattle.oemm_run.specs.Soup.{soup_of, limited, GivesSoup, IsSoup, fault_of_take, most_mesh_bytes};
@@ -22,6 +23,7 @@ const MOST_MESH_BYTES: usize = 67_108_864;
 #[tactic(auto, using(crate::proofs::Sources::gives_taken, crate::proofs::Sources::gives_fault))]
 pub fn read_mesh<M: Source>(alloc: Global, source: M) -> (M, Result<Soup, MeshFault>)
     ensures told { IfSome (M.left source) (λ bytes. GivesSoup result.1 (soup_of bytes)) }
+    ensures end { OnOk result.1 (IsAtEnd (M.left result.0)) }
     ensures ranges { IfOk result.1 IsSoup }
     ensures read { result.1 ≡ Err MeshFault.Read → Rose (M.faults source) (M.faults result.0) }
     ensures kept { M.faults source ≤ M.faults result.0 }
