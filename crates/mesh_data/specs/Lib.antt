@@ -6,3 +6,5 @@ pub mod Edits
 pub mod Work
 pub mod Reading
 pub mod Texts
+pub mod Planes
+pub mod Quads

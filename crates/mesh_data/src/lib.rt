@@ -7,6 +7,8 @@ mod geometry;
 mod items;
 mod list;
 mod names;
+mod planes;
+mod quads;
 mod sets;
 mod words;
 
@@ -15,6 +17,8 @@ pub use geometry::{Cell, Cells, Edge, Edges, Point, Points, Soup, Tri, Tris, Ver
 pub use items::{Item, Items, MeshFault, MeshWhy, ScriptWhy, What};
 pub use list::{Bytes, Copied, List};
 pub use names::{Lane, LeafNo, Name};
+pub use planes::Plane;
+pub use quads::Quad;
 pub use sets::{LeafSet, NameSet};
 pub use words::{CommandWord, CommandWords};
 

@@ -1,0 +1,8 @@
+/// The plane of a triangle, not normalised: the points p with n·p + d = 0, where n is the cross product of two sides.
+#[derive(Clone, Copy, Debug, PartialEq, Eq)]
+pub struct Plane {
+    pub nx: i64,
+    pub ny: i64,
+    pub nz: i64,
+    pub d: i64,
+}
