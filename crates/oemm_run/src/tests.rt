@@ -159,17 +159,21 @@ fn faults_of_the_mesh(rt: HostRuntime) -> Result<(), Fail> {
             MeshWhy::Repeated { face: 0 },
         ),
     ] {
-        let told = run_on(rt.alloc(), &RUN, mesh.as_bytes(), MOVES, 7, NONE)?;
-        assert_eq!(rt; told.end, End::MeshText { at, why }, "{mesh}");
-        assert!(rt; told.out.is_empty() && told.report.is_empty());
+        for piece in [1, 7, 4096] {
+            let told = run_on(rt.alloc(), &RUN, mesh.as_bytes(), MOVES, piece, NONE)?;
+            assert_eq!(rt; told.end, End::MeshText { at, why }, "{mesh}");
+            assert!(rt; told.out.is_empty() && told.report.is_empty());
+        }
     }
     for (mesh, what, count) in [
         ("OFF\n4097 0 0\n", What::Vertices, 4097),
         ("OFF\n16777217 0 0\n", What::Vertices, 16777217),
         ("OFF\n4096 16777217\n", What::Faces, 16777217),
     ] {
-        let told = run_on(rt.alloc(), &RUN, mesh.as_bytes(), "", 7, NONE)?;
-        assert_eq!(rt; told.end, End::Limit { what, count }, "{mesh}");
+        for piece in [1, 7, 4096] {
+            let told = run_on(rt.alloc(), &RUN, mesh.as_bytes(), "", piece, NONE)?;
+            assert_eq!(rt; told.end, End::Limit { what, count }, "{mesh}");
+        }
     }
     Ok(())
 }
@@ -184,9 +188,18 @@ fn faults_of_the_script(rt: HostRuntime) -> Result<(), Fail> {
         ("task 0 5 0 0 4 0 0\n", 1, ScriptWhy::Box),
         ("move 0 1 1 1\n", 1, ScriptWhy::NoTask),
     ] {
-        let told = run_on(rt.alloc(), &RUN, TETRAHEDRON.as_bytes(), script, 7, NONE)?;
-        assert_eq!(rt; told.end, End::ScriptText { line, why }, "{script}");
-        assert!(rt; told.out.is_empty() && told.report.is_empty());
+        for piece in [1, 7, 4096] {
+            let told = run_on(
+                rt.alloc(),
+                &RUN,
+                TETRAHEDRON.as_bytes(),
+                script,
+                piece,
+                NONE,
+            )?;
+            assert_eq!(rt; told.end, End::ScriptText { line, why }, "{script}");
+            assert!(rt; told.out.is_empty() && told.report.is_empty());
+        }
     }
     Ok(())
 }
