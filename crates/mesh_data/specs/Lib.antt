@@ -1,7 +1,9 @@
 pub mod Octree
 pub mod Ascending
 pub mod Triangles
+pub mod Rings
 pub mod Mesh
+pub mod Manifold
 pub mod Edits
 pub mod Work
 pub mod Reading

@@ -1,6 +1,7 @@
 use crate::axis::{is_between, place_at};
 use crate::list::{Copied, List};
 use crate::names::Name;
+use crate::planes::Planes;
 use std::alloc::{AllocError, Global};
 
 /// A point of the 16-bit grid.
@@ -20,10 +21,11 @@ impl Copied for Point {
     }
 }
 
-/// What a mesh keeps of a vertex.
-#[derive(Clone, Copy, Debug, PartialEq, Eq)]
+/// What a mesh keeps of a vertex: where it is, and the planes by which collapses of it are measured.
+#[derive(Debug, Drop)]
 pub struct Vertex {
     pub point: Point,
+    pub planes: Planes,
 }
 
 /// A triangle, seen from the side from which its names go round counterclockwise.

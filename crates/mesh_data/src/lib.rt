@@ -9,7 +9,9 @@ mod list;
 mod names;
 mod planes;
 mod quads;
+mod rings;
 mod sets;
+mod shapes;
 mod words;
 
 pub use edits::{Edit, Edits, Entries, Entry, Replies, Reply, Script, Task, Tasks};
@@ -17,9 +19,11 @@ pub use geometry::{Cell, Cells, Edge, Edges, Point, Points, Soup, Tri, Tris, Ver
 pub use items::{Item, Items, MeshFault, MeshWhy, ScriptWhy, What};
 pub use list::{Bytes, Copied, List};
 pub use names::{Lane, LeafNo, Name};
-pub use planes::Plane;
+pub use planes::{Plane, Planes};
 pub use quads::Quad;
+pub use rings::{Names, Ring};
 pub use sets::{LeafSet, NameSet};
+pub use shapes::{Audit, Shape};
 pub use words::{CommandWord, CommandWords};
 
 #[cfg(test)]

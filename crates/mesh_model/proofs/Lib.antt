@@ -1,5 +1,10 @@
-pub mod Sorting
-pub mod Orders
-pub mod EdgeSets
 pub mod Vertices
 pub mod Stars
+pub mod Totals
+pub mod Stocks
+pub mod PlaneLists
+pub mod Starts
+pub mod Audits
+pub mod Shares
+pub mod StartOrder
+pub mod EulerLaws

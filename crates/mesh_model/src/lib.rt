@@ -2,19 +2,21 @@
 #![tactic(auto)]
 
 mod areas;
-mod edge_sets;
+mod laws;
 mod plain_mesh;
-mod turning;
+mod plane_lists;
 mod vertex_map;
 
 pub use areas::{Area, core_leaves};
+pub use laws::{audit_laws, euler_laws, start_laws};
 pub use mesh_data::{
-    Bytes, Cell, Cells, CommandWord, CommandWords, Copied, Edge, Edges, Edit, Edits, Entries,
-    Entry, Item, Items, Lane, LeafNo, LeafSet, List, MeshFault, MeshWhy, Name, NameSet, Point,
-    Points, Replies, Reply, Script, ScriptWhy, Soup, Task, Tasks, Tri, Tris, Vertex, What,
+    Audit, Bytes, Cell, Cells, CommandWord, CommandWords, Copied, Edge, Edges, Edit, Edits,
+    Entries, Entry, Item, Items, Lane, LeafNo, LeafSet, List, MeshFault, MeshWhy, Name, NameSet,
+    Names, Plane, Planes, Point, Points, Quad, Replies, Reply, Ring, Script, ScriptWhy, Shape,
+    Soup, Task, Tasks, Tri, Tris, Vertex, What,
 };
 pub use plain_mesh::PlainMesh;
-pub use turning::turned_tri;
+pub use triangle_lists::turned_tri;
 
 #[cfg(test)]
 mod tests;

@@ -1,25 +1,27 @@
-ghost use Rattle.std.specs.Prelude.{◌≡◌, ◌≤◌, ◌<◌, ◌^◌, ◌||◌, ◌==◌, [], not, filter, length, vec_capacity, All, IfOk, OnOk, OnErr};
+ghost use Rattle.std.specs.Prelude.{◌≡◌, ◌≤◌, ◌<◌, ◌^◌, ◌*◌, ◌||◌, ◌==◌, [], not, filter, length, nat_abs, vec_capacity, All, IfOk, OnOk, OnErr};
 ghost use Rattle.std.specs.List.{list_all};
 ghost use Rattle.std.specs.FinMap as finite;
-ghost use Rattle.mesh_data.specs.Edits.{is_held, is_free, move_verdict, verdict, after};
-ghost use Rattle.mesh_data.specs.Mesh.{start, point_of, names_of, points_of, euler, euler2, border};
+ghost use Rattle.std.specs.Option.{option_copied};
+ghost use Rattle.mesh_data.specs.Edits.{is_held, is_free, move_verdict, moved, verdict, after};
+ghost use Rattle.mesh_data.specs.Manifold.{IsEachEdgeOnce, IsRinged, Audits};
+ghost use Rattle.mesh_data.specs.Mesh.{start, point_of, planes_of, names_of, points_of, euler, euler2, border};
 ghost use Rattle.mesh_data.specs.Octree.{AreCells, is_inside};
 ghost use Rattle.mesh_data.specs.Triangles.{IsProper, IsBelow, corners, has_corner};
 ghost use Rattle.mesh_data.specs.Work.{work, do_task, wide_entry};
 
 use crate::areas::{Area, core_leaves};
-use crate::edge_sets::{border_list, count_undirected};
-use crate::turning::turned_in_order;
+use crate::plane_lists::plane_lists;
 use crate::vertex_map::VertexMap;
 use mesh_data::{
-    Cells, Copied, Edges, Edit, Entry, LeafSet, List, Name, NameSet, Point, Points, Reply, Task,
-    Tri, Tris, Vertex,
+    Audit, Cells, Copied, Edges, Edit, Entry, LeafSet, List, Name, NameSet, Planes, Point, Points,
+    Reply, Task, Tri, Tris,
 };
 use std::alloc::{AllocError, Global};
 use std::marker::Model;
+use triangle_lists::{border_list, count_undirected, first_fault, turned_in_order};
 
-/// A whole mesh: at most 2^24 vertices by their names, and at most 2^24 triangles, each turned so that its
-/// least name comes first, in order.
+/// A whole mesh: at most 2^24 vertices by their names, and at most 2^24 triangles of three different ones of them,
+/// each turned so that its least name comes first, in order. The vertices have at most 3 · 2^24 planes.
 #[derive(Drop)]
 pub struct PlainMesh {
     vertices: VertexMap,
@@ -27,9 +29,11 @@ pub struct PlainMesh {
 }
 
 impl Model for PlainMesh {
-    ghost use Rattle.std.specs.Prelude.{◌≤◌, length};
+    ghost use Rattle.std.specs.Prelude.{◌≤◌, length, All};
     ghost use Rattle.std.specs.FinMap as finite;
+    ghost use Rattle.mesh_data.specs.Manifold.{IsTriangleOf};
     ghost use Rattle.mesh_data.specs.Mesh.{Mesh, mesh_code};
+    ghost use Rattle.mesh_model.specs.Totals.{HasPlanes};
 
     ghost Value = { Mesh };
 
@@ -37,7 +41,8 @@ impl Model for PlainMesh {
 
     ghost view = { λ m. record { vertices = m.vertices; tris = m.tris.items } };
 
-    ghost invariant = { λ m. (finite.len m.vertices ≤ 16777216) × (length m.tris.items ≤ 16777216) };
+    ghost invariant = { λ m. (finite.len m.vertices ≤ 16777216) × (length m.tris.items ≤ 16777216)
+        × All (IsTriangleOf m.vertices) m.tris.items × HasPlanes m.vertices };
 }
 
 impl PlainMesh {
@@ -54,8 +59,9 @@ impl PlainMesh {
         requires below { All (IsBelow (length points.now)) faces.now }
         ensures { IfOk result (λ m. m ≡ start (record { points = points.now; faces = faces.now })) }
     {
-        let vertices = VertexMap::at_points(alloc, points)?;
         let tris = turned_in_order(alloc, faces)?;
+        let planes = plane_lists(alloc, points, tris.as_slice())?;
+        let vertices = VertexMap::at_points(alloc, points, planes)?;
         Ok(PlainMesh { vertices, tris })
     }
 
@@ -118,7 +124,14 @@ impl PlainMesh {
     pub fn point(&self, v: Name) -> Option<Point>
         ensures { result ≡ point_of self.now v }
     {
-        self.vertices.get(v).map(|x| x.point)
+        self.vertices.point(v)
+    }
+
+    /// The planes of a vertex, if the mesh has it.
+    pub fn planes(&self, v: Name) -> Option<&Planes>
+        ensures { option_copied result ≡ planes_of self.now v }
+    {
+        self.vertices.planes(v)
     }
 
     /// The triangles, each turned so that its least name comes first, in order.
@@ -131,11 +144,40 @@ impl PlainMesh {
 
     /// The Euler characteristic: the vertices and triangles, less the undirected edges.
     pub fn euler(&self, alloc: Global) -> Result<i64, AllocError>
-        ensures { IfOk result (λ e. e ≡ euler self.now) }
+        ensures euler { IfOk result (λ e. e ≡ euler self.now) }
+        ensures small { IfOk result (λ e. nat_abs e < 2 ^ 31) }
     {
         let edges = count_undirected(alloc, self.tris.as_slice())?;
         let cells = self.vertices.len() + self.tris.len();
         Ok(cells as i64 - edges as i64)
+    }
+
+    /// Whether the mesh is an oriented 2-manifold: the least directed edge that two triangles have, else the least
+    /// vertex that is in a triangle and has no ring, else the mesh's numbers. It takes time of about F log F for F
+    /// triangles.
+    pub fn audit(&self, alloc: Global) -> Result<Audit, AllocError>
+        ensures { IfOk result (Audits self.now) }
+    {
+        match first_fault(alloc, self.tris.as_slice())? {
+            Some(shape) => Ok(Audit::Bad(shape)),
+            None => self.counts(alloc),
+        }
+    }
+
+    /// The numbers of the mesh, which is a manifold.
+    fn counts(&self, alloc: Global) -> Result<Audit, AllocError>
+        requires edges { IsEachEdgeOnce self.now.tris }
+        requires rings { IsRinged self.now.tris }
+        ensures { IfOk result (Audits self.now) }
+    {
+        let euler = self.euler(alloc)?;
+        let border = self.border(alloc)?;
+        Ok(Audit::Good {
+            vertices: self.vertices.len() as u32,
+            faces: self.tris.len() as u32,
+            euler: euler as i32,
+            border: border.len() as u32,
+        })
     }
 
     /// Twice the Euler characteristic: twice the vertices and triangles, less twice the undirected edges.
@@ -149,7 +191,8 @@ impl PlainMesh {
 
     /// The directed edges whose reverse is in no triangle, ascending.
     pub fn border(&self, alloc: Global) -> Result<Edges, AllocError>
-        ensures { IfOk result (λ edges. edges ≡ border self.now) }
+        ensures edges { IfOk result (λ edges. edges ≡ border self.now) }
+        ensures few { IfOk result (λ edges. length edges ≤ 3 * 16777216) }
     {
         border_list(alloc, self.tris.as_slice())
     }
@@ -158,8 +201,8 @@ impl PlainMesh {
     fn is_held(&self, area: &Area, v: Name) -> bool
         ensures { result ≡ is_held (is_inside area.now) self.now v }
     {
-        match self.vertices.get(v) {
-            Some(vertex) => area.holds(&vertex.point),
+        match self.vertices.point(v) {
+            Some(point) => area.holds(&point),
             None => false,
         }
     }
@@ -205,6 +248,13 @@ impl PlainMesh {
         }
     }
 
+    /// Puts a vertex at another point, if the mesh has it.
+    fn move_to(&mut self, v: Name, to: Point)
+        ensures { self.new ≡ moved self.old v to }
+    {
+        self.vertices.set_point(v, to);
+    }
+
     /// Answers one edit, and makes it where the answer is `Done`. It takes no memory.
     fn edited(&mut self, area: &Area, edit: &Edit) -> Reply
         ensures reply { result ≡ verdict (is_inside area.now) self.old edit.now }
@@ -214,7 +264,7 @@ impl PlainMesh {
             Edit::Move { v, to } => {
                 let reply = self.move_reply(area, *v, to);
                 if reply == Reply::Done {
-                    self.vertices.replace(*v, Vertex { point: *to });
+                    self.move_to(*v, *to);
                 }
                 reply
             }

@@ -30,11 +30,23 @@ fn are_faces(points: usize, faces: &[Tri]) -> bool
     true
 }
 
-fn mesh_of(alloc: Global, points: &[Point], faces: &[Tri]) -> Result<PlainMesh, AllocError> {
-    if points.len() > 99 || faces.len() > 99 || !are_faces(points.len(), faces) {
+fn mesh_of(alloc: Global, at: &[[i16; 3]], faces: &[[u32; 3]]) -> Result<PlainMesh, AllocError> {
+    let mut points = Vec::new(alloc);
+    for p in at {
+        points.push(Point {
+            x: p[0],
+            y: p[1],
+            z: p[2],
+        })?;
+    }
+    let mut tris = Vec::new(alloc);
+    for f in faces {
+        tris.push(tri(f[0], f[1], f[2]))?;
+    }
+    if points.len() > 99 || tris.len() > 99 || !are_faces(points.len(), &tris) {
         return Err(AllocError);
     }
-    PlainMesh::from_soup(alloc, points, faces)
+    PlainMesh::from_soup(alloc, &points, &tris)
 }
 
 fn octree(alloc: Global, depth: u8, xs: &[u8]) -> Result<Cells, AllocError>
@@ -91,10 +103,12 @@ fn to(v: u32, x: i16, y: i16, z: i16) -> Edit {
     }
 }
 
+const TETRAHEDRON: [[i16; 3]; 4] = [[0, 0, 0], [4, 0, 0], [0, 4, 0], [0, 0, 4]];
+
+const TETRAHEDRON_FACES: [[u32; 3]; 4] = [[0, 2, 1], [0, 1, 3], [0, 3, 2], [1, 2, 3]];
+
 fn tetrahedron(alloc: Global) -> Result<PlainMesh, AllocError> {
-    let points = [at(0, 0, 0), at(4, 0, 0), at(0, 4, 0), at(0, 0, 4)];
-    let faces = [tri(0, 2, 1), tri(0, 1, 3), tri(0, 3, 2), tri(1, 2, 3)];
-    mesh_of(alloc, &points, &faces)
+    mesh_of(alloc, &TETRAHEDRON, &TETRAHEDRON_FACES)
 }
 
 /// Does moves on the whole cube, an octree of one leaf.
@@ -128,27 +142,123 @@ fn moves_the_corner_of_a_tetrahedron(rt: HostRuntime) -> Result<(), Fail> {
 #[test]
 fn tells_the_parts_of_a_tetrahedron(rt: HostRuntime) -> Result<(), Fail> {
     let mesh = tetrahedron(rt.alloc())?;
-    let points = [at(0, 0, 0), at(4, 0, 0), at(0, 4, 0), at(0, 0, 4)];
-    assert_eq!(rt; mesh.points(rt.alloc())?.slice(), points.as_slice());
-    let tris = [tri(0, 1, 3), tri(0, 2, 1), tri(0, 3, 2), tri(1, 2, 3)];
-    assert_eq!(rt; mesh.tris(rt.alloc())?.slice(), tris.as_slice());
+    let points = mesh.points(rt.alloc())?;
+    assert_eq!(rt; points.len(), 4);
+    assert_eq!(rt; points.slice()[1], at(4, 0, 0));
+    let tris = mesh.tris(rt.alloc())?;
+    assert_eq!(rt; tris.len(), 4);
+    assert_eq!(rt; tris.slice()[0], tri(0, 1, 3));
     assert_eq!(rt; mesh.names(rt.alloc())?.len(), 4);
+    Ok(())
+}
+
+#[test]
+fn a_tetrahedron_has_no_border(rt: HostRuntime) -> Result<(), Fail> {
+    let mesh = tetrahedron(rt.alloc())?;
     assert_eq!(rt; mesh.euler(rt.alloc())?, 2);
     assert_eq!(rt; mesh.euler2(rt.alloc())?, 4);
     assert!(rt; mesh.border(rt.alloc())?.is_empty());
+    assert!(rt; is_good(rt.alloc(), &mesh, [4, 4, 0], 2)?);
+    Ok(())
+}
+
+#[test]
+fn the_last_vertex_has_the_planes_of_three_faces(rt: HostRuntime) -> Result<(), Fail> {
+    let mesh = tetrahedron(rt.alloc())?;
+    let planes = mesh.planes(Name(3)).map(|planes| planes.slice());
+    let want = [
+        plane(0, -16, 0, 0),
+        plane(-16, 0, 0, 0),
+        plane(16, 16, 16, -64),
+    ];
+    assert_eq!(rt; planes, Some(want.as_slice()));
+    assert!(rt; mesh.planes(Name(4)).is_none());
+    Ok(())
+}
+
+fn plane(nx: i64, ny: i64, nz: i64, d: i64) -> Plane {
+    Plane { nx, ny, nz, d }
+}
+
+/// Whether the audit answers these numbers of vertices, faces and border edges, and this Euler characteristic.
+fn is_good(
+    alloc: Global,
+    mesh: &PlainMesh,
+    counts: [u32; 3],
+    euler: i32,
+) -> Result<bool, AllocError> {
+    Ok(match mesh.audit(alloc)? {
+        Audit::Good {
+            vertices,
+            faces,
+            euler: found,
+            border,
+        } => {
+            vertices == counts[0] && faces == counts[1] && border == counts[2] && found == euler
+        }
+        Audit::Bad(Shape::Edge { .. } | Shape::Vertex { .. }) => false,
+    })
+}
+
+const OCTAHEDRON: [[i16; 3]; 6] = [
+    [4, 0, 0],
+    [-4, 0, 0],
+    [0, 4, 0],
+    [0, -4, 0],
+    [0, 0, 4],
+    [0, 0, -4],
+];
+
+const OCTAHEDRON_FACES: [[u32; 3]; 8] = [
+    [0, 2, 4],
+    [2, 1, 4],
+    [1, 3, 4],
+    [3, 0, 4],
+    [2, 0, 5],
+    [1, 2, 5],
+    [3, 1, 5],
+    [0, 3, 5],
+];
+
+#[test]
+fn an_octahedron_is_a_sphere(rt: HostRuntime) -> Result<(), Fail> {
+    let mesh = mesh_of(rt.alloc(), &OCTAHEDRON, &OCTAHEDRON_FACES)?;
+    assert!(rt; is_good(rt.alloc(), &mesh, [6, 8, 0], 2)?);
+    assert_eq!(rt; mesh.euler2(rt.alloc())?, 4);
+    Ok(())
+}
+
+const SQUARE: [[i16; 3]; 4] = [[-9, -9, 0], [9, -9, 2], [-9, 9, 6], [9, 9, -9]];
+
+#[test]
+fn two_triangles_are_a_disk(rt: HostRuntime) -> Result<(), Fail> {
+    let mesh = mesh_of(rt.alloc(), &SQUARE, &[[0, 1, 2], [1, 3, 2]])?;
+    assert!(rt; is_good(rt.alloc(), &mesh, [4, 2, 4], 1)?);
+    assert_eq!(rt; mesh.euler2(rt.alloc())?, 2);
+    let border = [edge(0, 1), edge(1, 3), edge(2, 0), edge(3, 2)];
+    assert_eq!(rt; mesh.border(rt.alloc())?.slice(), border.as_slice());
+    Ok(())
+}
+
+#[test]
+fn two_triangles_at_one_side_are_bad(rt: HostRuntime) -> Result<(), Fail> {
+    let mesh = mesh_of(rt.alloc(), &SQUARE, &[[0, 1, 2], [0, 1, 3]])?;
+    let Edge { a, b } = edge(0, 1);
+    assert_eq!(rt; mesh.audit(rt.alloc())?, Audit::Bad(Shape::Edge { a, b }));
     Ok(())
 }
 
 #[test]
 fn one_triangle_is_a_disk(rt: HostRuntime) -> Result<(), Fail> {
-    let points = [at(0, 0, 0), at(1, 0, 0), at(0, 1, 0)];
-    let mesh = mesh_of(rt.alloc(), &points, &[tri(2, 0, 1)])?;
+    let mesh = mesh_of(rt.alloc(), &[[0, 0, 0], [1, 0, 0], [0, 1, 0]], &[[2, 0, 1]])?;
     assert_eq!(rt; mesh.euler2(rt.alloc())?, 2);
-    let border = mesh.border(rt.alloc())?;
-    assert_eq!(rt;
-        border.slice(),
-        [edge(0, 1), edge(1, 2), edge(2, 0)].as_slice()
-    );
+    let border = [edge(0, 1), edge(1, 2), edge(2, 0)];
+    assert_eq!(rt; mesh.border(rt.alloc())?.slice(), border.as_slice());
+    Ok(())
+}
+
+#[test]
+fn nothing_has_no_characteristic(rt: HostRuntime) -> Result<(), Fail> {
     let empty = mesh_of(rt.alloc(), &[], &[])?;
     assert_eq!(rt; empty.euler2(rt.alloc())?, 0);
     assert_eq!(rt; turned_tri(&tri(7, 3, 5)), tri(3, 5, 7));
@@ -157,8 +267,18 @@ fn one_triangle_is_a_disk(rt: HostRuntime) -> Result<(), Fail> {
 
 /// Two triangles over two octants that meet where x is 0: of the four vertices the last lies on the left.
 fn over_two_octants(alloc: Global) -> Result<PlainMesh, AllocError> {
-    let points = [at(5, 0, 0), at(1, 0, 0), at(1, 4, 0), at(-3, 2, 0)];
-    mesh_of(alloc, &points, &[tri(0, 2, 1), tri(1, 2, 3)])
+    let points = [[5, 0, 0], [1, 0, 0], [1, 4, 0], [-3, 2, 0]];
+    mesh_of(alloc, &points, &[[0, 2, 1], [1, 2, 3]])
+}
+
+#[test]
+fn an_area_holds_the_points_of_its_leaves(rt: HostRuntime) -> Result<(), Fail> {
+    let cells = octree(rt.alloc(), 1, &[0, 1])?;
+    let core = core_leaves(rt.alloc(), &cells, &at(0, 0, 0), &at(9, 9, 9))?;
+    assert_eq!(rt; core.slice(), [LeafNo(1)].as_slice());
+    let area = Area::of(rt.alloc(), &cells, &core)?;
+    assert!(rt; area.holds(&at(0, 7, 7)) && !area.holds(&at(-1, 7, 7)));
+    Ok(())
 }
 
 #[test]
@@ -166,9 +286,7 @@ fn edits_stay_in_their_core(rt: HostRuntime) -> Result<(), Fail> {
     let mut mesh = over_two_octants(rt.alloc())?;
     let cells = octree(rt.alloc(), 1, &[0, 1])?;
     let core = core_leaves(rt.alloc(), &cells, &at(0, 0, 0), &at(9, 9, 9))?;
-    assert_eq!(rt; core.slice(), [LeafNo(1)].as_slice());
     let area = Area::of(rt.alloc(), &cells, &core)?;
-    assert!(rt; area.holds(&at(0, 7, 7)) && !area.holds(&at(-1, 7, 7)));
     for (edit, want) in [
         (to(3, 2, 2, 2), Reply::Unheld(Name(3))),
         (to(1, 2, 2, 2), Reply::Frozen(Name(1))),

@@ -1,12 +1,12 @@
-ghost use Rattle.std.specs.Prelude.{◌≡◌, ◌<◌, ◌+◌, ◌^◌, [], ◌∷◌, ◌++◌, map, length, IfOk, OnOk, OnErr};
+ghost use Rattle.std.specs.Prelude.{◌≡◌, ◌<◌, ◌+◌, ◌^◌, [], ◌∷◌, ◌++◌, map, length, slice_index_or, IfOk, OnOk, OnErr};
 ghost use Rattle.mesh_data.specs.Ascending.{IsAboveLast};
-ghost use Rattle.std.specs.Option.{option_map_or};
+ghost use Rattle.std.specs.Option.{option_copied, option_map, option_map_or};
 ghost use Rattle.std.specs.BTreeMap.{IsOrdered, values};
 ghost use Rattle.std.specs.Ordering.{nat_cmp};
 ghost use Rattle.std.specs.FinMap as finite;
 ghost use Rattle.mesh_data.specs.Mesh.{named_from};
 
-use mesh_data::{List, Name, NameSet, Point, Points, Vertex};
+use mesh_data::{List, Name, NameSet, Planes, Point, Points, Vertex};
 use std::alloc::{AllocError, Global};
 use std::collections::BTreeMap;
 use std::marker::Model;
@@ -41,15 +41,25 @@ impl VertexMap {
         }
     }
 
-    /// Vertices at these points, named by their places.
-    pub fn at_points(alloc: Global, points: &[Point]) -> Result<VertexMap, AllocError>
-        requires { length points.now < 2 ^ 32 }
-        ensures vertices { IfOk result (λ m. m ≡ finite.from_entries (named_from 0 points.now)) }
+    /// Vertices at these points with these planes, named by their places.
+    pub fn at_points(
+        alloc: Global,
+        points: &[Point],
+        mut planes: Vec<Planes>,
+    ) -> Result<VertexMap, AllocError>
+        requires few { length points.now < 2 ^ 32 }
+        requires whole { length planes.items ≡ length points.now }
+        ensures vertices { IfOk result (λ m. m ≡ finite.from_entries (named_from (λ v. slice_index_or planes.items v []) 0 points.now)) }
         ensures len { IfOk result (λ m. finite.len m ≡ length points.now) }
     {
         let mut vertices = VertexMap::new(alloc);
-        for (place, point) in points.iter().enumerate() {
-            vertices.insert(Name(place as u32), Vertex { point: *point })?;
+        while let Some(last) = planes.pop() {
+            let place = planes.len();
+            let vertex = Vertex {
+                point: points[place],
+                planes: last,
+            };
+            vertices.insert(Name(place as u32), vertex)?;
         }
         Ok(vertices)
     }
@@ -61,11 +71,27 @@ impl VertexMap {
         self.vertices.len()
     }
 
-    /// The vertex of a name, if there is one.
-    pub fn get(&self, v: Name) -> Option<Vertex>
-        ensures { result ≡ finite.get self.now v }
+    /// The vertex of a name, if it has one.
+    pub fn get(&self, v: Name) -> Option<&Vertex>
+        ensures { option_copied result ≡ finite.get self.now v }
     {
-        self.vertices.get(&v).copied()
+        self.vertices.get(&v)
+    }
+
+    /// The point of a name, if it has a vertex.
+    pub fn point(&self, v: Name) -> Option<Point>
+        ensures { result ≡ option_map (λ x. x.point) (finite.get self.now v) }
+    {
+        let vertex = self.get(v)?;
+        Some(vertex.point)
+    }
+
+    /// The planes of a name, if it has a vertex.
+    pub fn planes(&self, v: Name) -> Option<&Planes>
+        ensures { option_copied result ≡ option_map (λ x. x.planes) (finite.get self.now v) }
+    {
+        let vertex = self.get(v)?;
+        Some(&vertex.planes)
     }
 
     /// Puts a vertex at a name. For want of memory nothing is changed.
@@ -77,13 +103,13 @@ impl VertexMap {
         Ok(())
     }
 
-    /// Puts a vertex at a name that has one, and does nothing at another name. It takes no memory.
-    pub fn replace(&mut self, v: Name, vertex: Vertex)
-        ensures vertices { self.new ≡ option_map_or (λ _. finite.insert self.old v vertex) (finite.get self.old v) self.old }
+    /// Puts the vertex of a name at another point, and does nothing at a name without one. It takes no memory.
+    pub fn set_point(&mut self, v: Name, to: Point)
+        ensures vertices { self.new ≡ option_map_or (λ x. finite.insert self.old v (record x { point = to })) (finite.get self.old v) self.old }
         ensures len { finite.len self.new ≡ finite.len self.old }
     {
-        if let Some(place) = self.vertices.get_mut(&v) {
-            *place = vertex;
+        if let Some(vertex) = self.vertices.get_mut(&v) {
+            vertex.point = to;
         }
     }
 

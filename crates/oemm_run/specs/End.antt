@@ -5,10 +5,12 @@ use Rattle.mesh_data.specs.declared.items.MeshWhy.{MeshWhy}
 use Rattle.mesh_data.specs.declared.items.MeshWhy.TheVariants as mesh_why
 use Rattle.mesh_data.specs.declared.items.ScriptWhy.{ScriptWhy}
 use Rattle.mesh_data.specs.declared.items.ScriptWhy.TheVariants as script_why
+use Rattle.mesh_data.specs.declared.shapes.Shape.{Shape}
+use Rattle.mesh_data.specs.declared.shapes.Shape.TheVariants as shape
 use Rattle.mesh_data.specs.declared.items.What.{What}
 use Rattle.mesh_data.specs.declared.items.What.TheVariants as what
 use Rattle.oemm_run.specs.declared.end.End.{End}
-use Rattle.oemm_run.specs.declared.end.End.TheVariants.{Done, Usage, ReadMesh, ReadScript, MeshText, ScriptText, WriteOut, WriteReport, Limit, Memory}
+use Rattle.oemm_run.specs.declared.end.End.TheVariants.{Done, Usage, ReadMesh, ReadScript, MeshText, MeshShape, ScriptText, WriteOut, WriteReport, Limit, Memory}
 
 abbrev pub status_of : End → ℕ
 status_of Done = 0
@@ -16,6 +18,7 @@ status_of Usage = 1
 status_of ReadMesh = 2
 status_of ReadScript = 2
 status_of (MeshText at why) = 3
+status_of (MeshShape what_is_bad) = 4
 status_of (ScriptText line why) = 5
 status_of WriteOut = 7
 status_of WriteReport = 7
@@ -41,6 +44,10 @@ script_why_text script_why.Lane = codes "Lane"
 script_why_text script_why.Box = codes "Box"
 script_why_text script_why.NoTask = codes "NoTask"
 
+abbrev pub shape_text : Shape → List ℕ
+shape_text (shape.Edge a b) = codes "mesh isn't a manifold: edge " ++ (decimal a ++ (codes " " ++ decimal b))
+shape_text (shape.Vertex v) = codes "mesh isn't a manifold: vertex " ++ decimal v
+
 abbrev pub what_text : What → List ℕ
 what_text what.Vertices = codes "Vertices"
 what_text what.Faces = codes "Faces"
@@ -56,6 +63,7 @@ end_words Usage = codes "usage"
 end_words ReadMesh = codes "mesh can't be read"
 end_words ReadScript = codes "script can't be read"
 end_words (MeshText at why) = codes "mesh fault at byte " ++ (decimal at ++ (codes ": " ++ mesh_why_text why))
+end_words (MeshShape what_is_bad) = shape_text what_is_bad
 end_words (ScriptText line why) = codes "script fault in line " ++ (decimal line ++ (codes ": " ++ script_why_text why))
 end_words WriteOut = codes "output can't be written"
 end_words WriteReport = codes "report can't be written"

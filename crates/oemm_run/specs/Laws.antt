@@ -4,7 +4,10 @@ use Rattle.fault_counts.specs.Counts.{IsCalm}
 use Rattle.mesh_data.specs.declared.geometry.Soup.{Soup}
 use Rattle.mesh_data.specs.declared.edits.Task.{Task}
 use Rattle.mesh_data.specs.declared.edits.Entry.{Entry}
+use Rattle.mesh_data.specs.declared.shapes.Shape.{Shape}
+use Rattle.mesh_data.specs.declared.shapes.Audit.TheVariants as audit
 use Rattle.mesh_data.specs.declared.items.MeshFault.{MeshFault}
+use Rattle.mesh_data.specs.Manifold.{IsManifold, Audits}
 use Rattle.mesh_data.specs.Mesh.{Mesh, start}
 use Rattle.mesh_data.specs.Work.{play}
 use Rattle.mesh_out.specs.MeshBytes.{mesh_bytes}
@@ -12,7 +15,7 @@ use Rattle.commit_journal.specs.Text.{journal_text}
 use Rattle.edit_script.specs.declared.fault.ScriptFault.{ScriptFault}
 use Rattle.edit_script.specs.Grammar.{script_of}
 use Rattle.oemm_run.specs.declared.end.End.{End}
-use Rattle.oemm_run.specs.declared.end.End.TheVariants.{Done, Usage, Memory}
+use Rattle.oemm_run.specs.declared.end.End.TheVariants.{Done, Usage, MeshShape, Memory}
 use Rattle.oemm_run.specs.Outside.{Outside, Wrote, AllCalm}
 use Rattle.oemm_run.specs.Phases.{end_of_mesh, end_of_script}
 use Rattle.oemm_run.specs.Report.{summary}
@@ -25,11 +28,16 @@ abbrev pub EndsAs : End → End → Type 0
 EndsAs expected end = (end ≡ expected) ⊎ (end ≡ Memory)
 
 -- the words ask for a run, and the mesh's source tells its bytes, which are those of these points and faces
-pub record HasGoodMesh (words : List (List ℕ)) (before : Outside) (s : Soup) : Type 0 where
+pub record HasReadMesh (words : List (List ℕ)) (before : Outside) (s : Soup) : Type 0 where
   pub run : AreRun words
   pub bytes : List ℕ
   pub told : before.mesh.left ≡ Some bytes
   pub soup : soup_of bytes ≡ Ok s
+
+-- besides, they are those of a manifold
+pub record HasGoodMesh (words : List (List ℕ)) (before : Outside) (s : Soup) : Type 0 where
+  pub read : HasReadMesh words before s
+  pub manifold : IsManifold (start s)
 
 -- besides, the script's source tells its bytes, which are those of these tasks
 pub record HasGoodInput (words : List (List ℕ)) (before : Outside) (s : Soup) (tasks : List Task) : Type 0 where
@@ -66,6 +74,12 @@ abbrev pub TellsMeshFault : List (List ℕ) → Outside → Outside → End → 
 TellsMeshFault words before after end =
     (bytes : List ℕ) (fault : MeshFault) → AreRun words → before.mesh.left ≡ Some bytes → soup_of bytes ≡ Err fault
     → IsCalm before.mesh.faults after.mesh.faults → EndsAs (end_of_mesh fault) end
+
+-- what keeps the mesh from being a manifold is told, unless its source fails
+abbrev pub TellsShape : List (List ℕ) → Outside → Outside → End → Type 0
+TellsShape words before after end =
+    (s : Soup) (shape : Shape) → HasReadMesh words before s → Audits (start s) (audit.Bad shape)
+    → IsCalm before.mesh.faults after.mesh.faults → EndsAs (MeshShape shape) end
 
 -- the first fault of the script's text is told, unless a source fails
 abbrev pub TellsScriptFault : List (List ℕ) → Outside → Outside → End → Type 0

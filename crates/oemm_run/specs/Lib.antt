@@ -2,6 +2,7 @@ pub mod End
 pub mod Report
 pub mod Words
 pub mod Soup
+pub mod Shape
 pub mod Outside
 pub mod Run
 pub mod Phases

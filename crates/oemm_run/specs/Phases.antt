@@ -5,8 +5,10 @@ use Rattle.mesh_data.specs.declared.items.MeshFault.{MeshFault}
 use Rattle.mesh_data.specs.declared.items.MeshFault.TheVariants as mesh
 use Rattle.edit_script.specs.declared.fault.ScriptFault.{ScriptFault}
 use Rattle.edit_script.specs.declared.fault.ScriptFault.TheVariants as script
+use Rattle.oemm_run.specs.declared.shape.ShapeFault.{ShapeFault}
+use Rattle.oemm_run.specs.declared.shape.ShapeFault.TheVariants as shape
 use Rattle.oemm_run.specs.declared.end.End.{End}
-use Rattle.oemm_run.specs.declared.end.End.TheVariants.{Done, ReadMesh, ReadScript, MeshText, ScriptText, WriteOut, WriteReport, Limit, Memory}
+use Rattle.oemm_run.specs.declared.end.End.TheVariants.{Done, ReadMesh, ReadScript, MeshText, MeshShape, ScriptText, WriteOut, WriteReport, Limit, Memory}
 use Rattle.oemm_run.specs.Outside.{Output, Wrote, FailedIn}
 
 -- how a run ends whose mesh can't be read
@@ -15,6 +17,11 @@ end_of_mesh mesh.Read = ReadMesh
 end_of_mesh (mesh.Text at why) = MeshText at why
 end_of_mesh (mesh.TooMany what count) = Limit what count
 end_of_mesh mesh.Memory = Memory
+
+-- how a run ends whose mesh can't be worked on
+abbrev pub end_of_shape : ShapeFault → End
+end_of_shape (shape.Bad what) = MeshShape what
+end_of_shape shape.Memory = Memory
 
 -- how a run ends whose script can't be read
 abbrev pub end_of_script : ScriptFault → End

@@ -1,12 +1,15 @@
--- What a run gives: one relation, by cases on its end. The phases are words, mesh, script, tasks, out and report.
+-- What a run gives: one relation, by cases on its end. The phases are words, mesh, shape, script, tasks, out and report.
 use Rattle.std.specs.Prelude.{◌≡◌, ℕ, ◌⊎◌, List, [], ◌∷◌, ◌++◌, None, Ok, Err, IfSome, IsSome, ⊤}
 use Rattle.fault_counts.specs.Told.{IsAtEnd}
 use Rattle.fault_counts.specs.Counts.{Rose}
 use Rattle.mesh_data.specs.declared.geometry.Cell.{Cell}
 use Rattle.mesh_data.specs.declared.geometry.Soup.{Soup}
 use Rattle.mesh_data.specs.declared.edits.Task.{Task}
+use Rattle.mesh_data.specs.declared.shapes.Shape.{Shape}
+use Rattle.mesh_data.specs.declared.shapes.Audit.TheVariants as audit
 use Rattle.mesh_data.specs.declared.items.MeshFault.{MeshFault}
 use Rattle.mesh_data.specs.declared.items.MeshFault.TheVariants as mesh
+use Rattle.mesh_data.specs.Manifold.{IsManifold, Audits}
 use Rattle.mesh_data.specs.Mesh.{start}
 use Rattle.mesh_data.specs.Octree.{root_cell}
 use Rattle.mesh_data.specs.Work.{Played, play}
@@ -16,7 +19,7 @@ use Rattle.edit_script.specs.declared.fault.ScriptFault.{ScriptFault}
 use Rattle.edit_script.specs.declared.fault.ScriptFault.TheVariants as script
 use Rattle.edit_script.specs.Grammar.{script_of}
 use Rattle.oemm_run.specs.declared.end.End.{End}
-use Rattle.oemm_run.specs.declared.end.End.TheVariants.{Done, Usage, ReadMesh, ReadScript, MeshText, ScriptText, WriteOut, WriteReport, Limit, Memory}
+use Rattle.oemm_run.specs.declared.end.End.TheVariants.{Done, Usage, ReadMesh, ReadScript, MeshText, MeshShape, ScriptText, WriteOut, WriteReport, Limit, Memory}
 use Rattle.oemm_run.specs.Outside.{Outside, Wrote, FailedIn, IsUntouched}
 use Rattle.oemm_run.specs.Report.{summary}
 use Rattle.oemm_run.specs.Soup.{soup_of}
@@ -47,9 +50,14 @@ pub record HasMesh (words : List (List ℕ)) (before : Outside) (s : Soup) : Typ
   pub run : AreRun words
   pub mesh : IfSome before.mesh.left (λ bytes. soup_of bytes ≡ Ok s)
 
+-- and the mesh is a manifold
+pub record HasManifold (words : List (List ℕ)) (before : Outside) (s : Soup) : Type 0 where
+  pub earlier : HasMesh words before s
+  pub manifold : IsManifold (start s)
+
 -- and the script was read
 pub record HasScript (words : List (List ℕ)) (before : Outside) (s : Soup) (tasks : List Task) : Type 0 where
-  pub earlier : HasMesh words before s
+  pub earlier : HasManifold words before s
   pub script : IfSome before.script.left (λ bytes. script_of bytes ≡ Ok tasks)
 
 -- the mesh's text has this fault first
@@ -57,10 +65,16 @@ pub record HasMeshFault (words : List (List ℕ)) (before : Outside) (fault : Me
   pub run : AreRun words
   pub mesh : IfSome before.mesh.left (λ bytes. soup_of bytes ≡ Err fault)
 
--- the mesh was read, and the script's text has this fault first
-pub record HasScriptFault (words : List (List ℕ)) (before : Outside) (fault : ScriptFault) : Type 0 where
+-- the mesh was read, and this is what its audit answers
+pub record HasBadShape (words : List (List ℕ)) (before : Outside) (shape : Shape) : Type 0 where
   pub soup : Soup
   pub earlier : HasMesh words before soup
+  pub bad : Audits (start soup) (audit.Bad shape)
+
+-- the mesh is a manifold, and the script's text has this fault first
+pub record HasScriptFault (words : List (List ℕ)) (before : Outside) (fault : ScriptFault) : Type 0 where
+  pub soup : Soup
+  pub earlier : HasManifold words before soup
   pub script : IfSome before.script.left (λ bytes. script_of bytes ≡ Err fault)
 
 -- both sources were read to their ends, and all was written: the mesh that the tasks leave, and the report
@@ -73,10 +87,10 @@ pub record IsDone (words : List (List ℕ)) (before after : Outside) : Type 0 wh
   pub out : Wrote before.out after.out (mesh_bytes (played soup tasks).mesh)
   pub report : Wrote before.report after.report (report_text (played soup tasks))
 
--- the mesh was read, and then the script's source failed
+-- the mesh is a manifold, and then the script's source failed
 pub record FailsAtScript (words : List (List ℕ)) (before after : Outside) : Type 0 where
   pub soup : Soup
-  pub earlier : HasMesh words before soup
+  pub earlier : HasManifold words before soup
   pub cause : Rose before.script.faults after.script.faults
 
 -- the tasks were done, and then the mesh couldn't be written
@@ -101,6 +115,7 @@ RunGives words before after Done = IsDone words before after
 RunGives words before after Usage = order_of words ≡ None
 RunGives words before after ReadMesh = AreRun words × Rose before.mesh.faults after.mesh.faults
 RunGives words before after (MeshText at why) = HasMeshFault words before (mesh.Text at why)
+RunGives words before after (MeshShape shape) = HasBadShape words before shape
 RunGives words before after ReadScript = FailsAtScript words before after
 RunGives words before after (ScriptText line why) = HasScriptFault words before (script.Syntax line why)
 RunGives words before after WriteOut = FailsAtOut words before after

@@ -3,7 +3,7 @@
 ghost use Rattle.std.specs.Prelude.{◌≡◌};
 ghost use Rattle.oemm_run.specs.End.{status_of};
 
-use mesh_data::{MeshWhy, ScriptWhy, What};
+use mesh_data::{MeshWhy, ScriptWhy, Shape, What};
 
 /// How a command ended.
 #[derive(Clone, Copy, Debug, PartialEq, Eq)]
@@ -18,6 +18,8 @@ pub enum End {
     ReadScript,
     /// The first fault of the mesh's text, and the number of bytes before its line, or in all where the text is cut.
     MeshText { at: u64, why: MeshWhy },
+    /// What keeps the mesh from being an oriented manifold.
+    MeshShape(Shape),
     /// The first fault of the script's text, and its line, counted from 1.
     ScriptText { line: u32, why: ScriptWhy },
     /// The sink of the mesh failed. It holds a front of the bytes.
@@ -38,6 +40,7 @@ pub fn status(end: &End) -> u8
         End::Usage => 1,
         End::ReadMesh | End::ReadScript => 2,
         End::MeshText { .. } => 3,
+        End::MeshShape(_) => 4,
         End::ScriptText { .. } => 5,
         End::WriteOut | End::WriteReport => 7,
         End::Limit { .. } => 8,

@@ -7,6 +7,7 @@ mod mesh_source;
 mod orders;
 mod phases;
 mod play;
+mod shape;
 mod soup;
 mod summary;
 mod tellings;

@@ -1,9 +1,10 @@
 //! The phases of a run.
 
 ghost use Rattle.std.specs.Prelude.{◌≡◌};
-ghost use Rattle.oemm_run.specs.Phases.{end_of_mesh, end_of_script, WritesGive, output};
+ghost use Rattle.oemm_run.specs.Phases.{end_of_mesh, end_of_shape, end_of_script, WritesGive, output};
 
 use crate::end::End;
+use crate::shape::ShapeFault;
 use edit_script::ScriptFault;
 use mesh_data::{Bytes, MeshFault};
 use oemm_io::{Sink, put_all};
@@ -17,6 +18,16 @@ pub fn end_of_mesh(fault: MeshFault) -> End
         MeshFault::Text { at, why } => End::MeshText { at, why },
         MeshFault::TooMany { what, count } => End::Limit { what, count },
         MeshFault::Memory => End::Memory,
+    }
+}
+
+/// How a run ends whose mesh can't be worked on.
+pub fn end_of_shape(fault: ShapeFault) -> End
+    ensures { result ≡ end_of_shape fault }
+{
+    match fault {
+        ShapeFault::Bad(shape) => End::MeshShape(shape),
+        ShapeFault::Memory => End::Memory,
     }
 }
 

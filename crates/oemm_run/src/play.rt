@@ -6,12 +6,11 @@ ghost use Rattle.mesh_data.specs.Work.{play};
 ghost use Rattle.mesh_out.specs.MeshBytes.{mesh_bytes};
 ghost use Rattle.commit_journal.specs.Text.{journal_text};
 ghost use Rattle.oemm_run.specs.Report.{summary};
-ghost use Rattle.oemm_run.specs.Run.{one_leaf, core_limit, played, report_text};
-ghost use Rattle.oemm_run.specs.Soup.{IsSoup};
+ghost use Rattle.oemm_run.specs.Run.{one_leaf, core_limit, report_text};
 
 use crate::summary::put_summary;
 use commit_journal::journal_text;
-use mesh_data::{Bytes, Cell, Cells, Entries, List, Soup, Task};
+use mesh_data::{Bytes, Cell, Cells, Entries, List, Task};
 use mesh_model::PlainMesh;
 use mesh_out::{off_bytes, renumber};
 use std::alloc::{AllocError, Global};
@@ -95,15 +94,12 @@ fn report_of(alloc: Global, mesh: &PlainMesh, journal: &Entries) -> Result<Bytes
     Ok(List::from_vec(text))
 }
 
-/// Does the tasks on the start mesh, and answers what is written of them. All memory is taken here.
-#[tactic(auto, unfolding(crate::specs::Run::played))]
-pub fn texts_of(alloc: Global, soup: &Soup, tasks: &[Task]) -> Result<Texts, AllocError>
-    requires soup { IsSoup soup.now }
-    requires few { length tasks.now ≤ 2 ^ 32 }
-    ensures mesh { IfOk result (λ texts. texts.mesh ≡ mesh_bytes (played soup.now tasks.now).mesh) }
-    ensures report { IfOk result (λ texts. texts.report ≡ report_text (played soup.now tasks.now)) }
+/// Does the tasks on the mesh, and answers what is written of them. All memory is taken here.
+pub fn texts_of(alloc: Global, mut mesh: PlainMesh, tasks: &[Task]) -> Result<Texts, AllocError>
+    requires { length tasks.now ≤ 2 ^ 32 }
+    ensures mesh { IfOk result (λ texts. texts.mesh ≡ mesh_bytes (play one_leaf core_limit mesh tasks.now).mesh) }
+    ensures report { IfOk result (λ texts. texts.report ≡ report_text (play one_leaf core_limit mesh tasks.now)) }
 {
-    let mut mesh = PlainMesh::from_soup(alloc, soup.points.slice(), soup.faces.slice())?;
     let cells = one_leaf(alloc)?;
     let journal = play_tasks(alloc, &mut mesh, &cells, tasks)?;
     Ok(Texts {

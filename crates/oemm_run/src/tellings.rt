@@ -2,10 +2,10 @@
 
 ghost use Rattle.std.specs.Prelude.{◌≡◌, ◌++◌, OnOk, IfOk};
 ghost use Rattle.std.specs.String.{string_bytes};
-ghost use Rattle.oemm_run.specs.End.{end_text, end_words, mesh_why_text, script_why_text, what_text};
+ghost use Rattle.oemm_run.specs.End.{end_text, end_words, mesh_why_text, script_why_text, shape_text, what_text};
 
 use crate::end::End;
-use mesh_data::{Bytes, MeshWhy, ScriptWhy, What};
+use mesh_data::{Bytes, MeshWhy, ScriptWhy, Shape, What};
 use std::alloc::{AllocError, Global};
 
 /// The line that tells how a command ended, and nothing for `Done`.
@@ -37,6 +37,7 @@ fn put_words(text: &mut String, end: &End) -> Result<(), AllocError>
         End::ReadMesh => text.push_str("mesh can't be read"),
         End::ReadScript => text.push_str("script can't be read"),
         End::MeshText { at, why } => put_mesh_fault(text, *at, why),
+        End::MeshShape(shape) => put_shape(text, shape),
         End::ScriptText { line, why } => put_script_fault(text, *line, why),
         End::WriteOut => text.push_str("output can't be written"),
         End::WriteReport => text.push_str("report can't be written"),
@@ -50,6 +51,15 @@ fn put_mesh_fault(text: &mut String, at: u64, why: &MeshWhy) -> Result<(), Alloc
 {
     write!(text, "mesh fault at byte {at}: ")?;
     put_mesh_why(text, why)
+}
+
+fn put_shape(text: &mut String, shape: &Shape) -> Result<(), AllocError>
+    ensures { OnOk result (string_bytes text.new ≡ string_bytes text.old ++ shape_text shape.now) }
+{
+    match shape {
+        Shape::Edge { a, b } => write!(text, "mesh isn't a manifold: edge {} {}", a.0, b.0),
+        Shape::Vertex { v } => write!(text, "mesh isn't a manifold: vertex {}", v.0),
+    }
 }
 
 fn put_script_fault(text: &mut String, line: u32, why: &ScriptWhy) -> Result<(), AllocError>

@@ -1,5 +1,5 @@
 use super::*;
-use mesh_data::{CommandWords, MeshWhy, ScriptWhy, What};
+use mesh_data::{CommandWords, MeshWhy, Name, ScriptWhy, Shape, What};
 use oemm_io::{MemSink, MemSource};
 use std::alloc::{AllocError, Global};
 use std::test::Fail;
@@ -178,6 +178,46 @@ fn faults_of_the_mesh(rt: HostRuntime) -> Result<(), Fail> {
     Ok(())
 }
 
+fn edge(a: u32, b: u32) -> Shape {
+    Shape::Edge {
+        a: Name(a),
+        b: Name(b),
+    }
+}
+
+/// The audit comes before the script is opened: its source would fail.
+#[test]
+fn meshes_that_are_no_manifold(rt: HostRuntime) -> Result<(), Fail> {
+    let vertex = Shape::Vertex { v: Name(0) };
+    let unread = Failing { script: 1, ..NONE };
+    for (faces, shape) in [
+        ("3 0 1 2\n3 0 1 3\n", edge(0, 1)),
+        ("3 0 1 2\n3 0 1 2\n", edge(0, 1)),
+        ("3 0 1 2\n3 0 3 4\n", vertex),
+        ("3 0 1 2\n3 0 2 1\n", vertex),
+    ] {
+        let mesh = format!(in rt.alloc();
+            "OFF\n5 2 0\n0 0 0\n4 0 0\n0 4 0\n0 0 4\n1 1 1\n{faces}"
+        )?;
+        for piece in [1, 4096] {
+            let told = run_on(
+                rt.alloc(),
+                &RUN,
+                mesh.as_str().as_bytes(),
+                "",
+                piece,
+                unread,
+            )?;
+            assert_eq!(rt; told.end, End::MeshShape(shape), "{faces}");
+            assert!(rt; told.out.is_empty() && told.report.is_empty());
+        }
+    }
+    let lone = "OFF\n4 1 0\n0 0 0\n4 0 0\n0 4 0\n0 0 4\n3 0 1 2\n";
+    let told = run_on(rt.alloc(), &RUN, lone.as_bytes(), "", 4096, NONE)?;
+    assert_eq!(rt; told.end, End::Done);
+    Ok(())
+}
+
 #[test]
 fn faults_of_the_script(rt: HostRuntime) -> Result<(), Fail> {
     for (script, line, why) in [
@@ -283,6 +323,16 @@ fn ends_are_told(rt: HostRuntime) -> Result<(), Fail> {
             },
             3,
             "oemm: mesh fault at byte 16: OutOfRange 1\n",
+        ),
+        (
+            End::MeshShape(edge(0, 1)),
+            4,
+            "oemm: mesh isn't a manifold: edge 0 1\n",
+        ),
+        (
+            End::MeshShape(Shape::Vertex { v: Name(7) }),
+            4,
+            "oemm: mesh isn't a manifold: vertex 7\n",
         ),
         (
             End::ScriptText {

@@ -3,13 +3,14 @@
 ghost use Rattle.std.specs.Prelude.{◌≡◌};
 ghost use Rattle.oemm_run.specs.Run.{RunGives, LeavesSinks};
 ghost use Rattle.oemm_run.specs.Outside.{KeepsCounts};
-ghost use Rattle.oemm_run.specs.Laws.{Headline, IsComplete, TellsUsage, TellsMeshFault, TellsScriptFault};
+ghost use Rattle.oemm_run.specs.Laws.{Headline, IsComplete, TellsUsage, TellsMeshFault, TellsShape, TellsScriptFault};
 
 use crate::end::End;
 use crate::io::{Io, Seen};
 use crate::mesh_source::read_mesh;
-use crate::phases::{end_of_mesh, end_of_script, write_both};
+use crate::phases::{end_of_mesh, end_of_script, end_of_shape, write_both};
 use crate::play::texts_of;
+use crate::shape::start_mesh;
 use crate::words::are_run;
 use edit_script::read_script;
 use mesh_data::CommandWords;
@@ -35,13 +36,17 @@ fn run_phases<M: Source, S: Source, O: Sink, R: Sink>(
         Ok(soup) => soup,
         Err(fault) => return (io, end_of_mesh(fault)),
     };
+    let plain = match start_mesh(alloc, &soup) {
+        Ok(plain) => plain,
+        Err(fault) => return (io, end_of_shape(fault)),
+    };
     let (script, read) = read_script(alloc, io.script);
     let io = Io { script, ..io };
     let read = match read {
         Ok(read) => read,
         Err(fault) => return (io, end_of_script(fault)),
     };
-    let Ok(texts) = texts_of(alloc, &soup, read.tasks.slice()) else {
+    let Ok(texts) = texts_of(alloc, plain, read.tasks.slice()) else {
         return (io, End::Memory);
     };
     let (out, report, end) = write_both(
@@ -58,7 +63,6 @@ fn run_phases<M: Source, S: Source, O: Sink, R: Sink>(
 ///
 /// The objects come back with the end. All tasks are done before the first byte is written, and the mesh is written
 /// whole before the report begins.
-#[tactic(auto, using(crate::proofs::RunLaws::headline, crate::proofs::RunLaws::complete, crate::proofs::RunLaws::tells_usage, crate::proofs::RunLaws::tells_mesh_fault, crate::proofs::RunLaws::tells_script_fault))]
 pub fn run<M: Source, S: Source, O: Sink, R: Sink>(
     alloc: Global,
     words: &CommandWords,
@@ -75,6 +79,7 @@ pub fn run<M: Source, S: Source, O: Sink, R: Sink>(
     ensures complete { IsComplete words.now (⟦<Io<M, S, O, R> as Seen>⟧.outside io) (⟦<Io<M, S, O, R> as Seen>⟧.outside result.0) result.1 }
     ensures usage { TellsUsage words.now result.1 }
     ensures mesh_fault { TellsMeshFault words.now (⟦<Io<M, S, O, R> as Seen>⟧.outside io) (⟦<Io<M, S, O, R> as Seen>⟧.outside result.0) result.1 }
+    ensures mesh_shape { TellsShape words.now (⟦<Io<M, S, O, R> as Seen>⟧.outside io) (⟦<Io<M, S, O, R> as Seen>⟧.outside result.0) result.1 }
     ensures script_fault { TellsScriptFault words.now (⟦<Io<M, S, O, R> as Seen>⟧.outside io) (⟦<Io<M, S, O, R> as Seen>⟧.outside result.0) result.1 }
 {
     run_phases(alloc, words, io)

@@ -1,25 +1,46 @@
-use Rattle.std.proofs.Common.{◌≡◌, ◌∙◌, List, Ok, IfSome, OnOk, sym, subst, rules}
+use Rattle.std.proofs.Common.{◌≡◌, ◌∙◌, List, Ok, Err, IfSome, OnOk, sym, subst, ap, rules}
 use Rattle.mesh_data.specs.declared.edits.Task.{Task}
+use Rattle.mesh_data.specs.Mesh.{Mesh}
+use Rattle.mesh_data.specs.Work.{play}
+use Rattle.mesh_out.specs.MeshBytes.{mesh_bytes}
 use Rattle.fault_counts.specs.Told.{IsAtEnd}
 use Rattle.edit_script.specs.Grammar.{script_of}
 use Rattle.edit_script.specs.Script.{GivesScript}
+use Rattle.oemm_run.specs.Run.{played, report_text, one_leaf, core_limit}
+use Rattle.oemm_run.specs.Shape.{GivesStart}
 use Rattle.oemm_run.specs.Soup.{soup_of, GivesSoup}
-use Rattle.oemm_run.proofs.RunLaws.{gives_written}
+use Rattle.edit_script.specs.declared.fault.ScriptFault.{ScriptFault}
+use Rattle.oemm_run.proofs.RunLaws.{gives_written, gives_script_fault}
 use Rattle.oemm_run.proofs.top.run_phases.Goals as goal
 
 pub returns-clause-gives : goal.returns-clause-gives
+unfolding played
 returns-clause-gives g c =
     let left = g.M.Source.left c.args.io.mesh in
     let script_left = g.S.Source.left c.args.io.script in
     let soup = c.in-Ok.soup in
     let tasks = c.slice.result.now in
     let mesh_read = subst (λ r. IfSome left (λ bytes. GivesSoup r (soup_of bytes))) c.in-Ok.is c.read_mesh-mesh.ensures.told in
+    let begun = subst (GivesStart soup) c.in-Ok-start_mesh.is c.start_mesh.ensures in
     let script_told = subst (λ r. IfSome script_left (λ bytes. GivesScript r (script_of bytes))) c.in-Ok-read.is c.read_script-script.ensures.told in
     let script_read = subst (λ (ts : List Task). IfSome script_left (λ bytes. script_of bytes ≡ Ok ts)) (sym c.slice.ensures) script_told in
     gives_written c.args.words.now _ _ c.slice-2.result.now c.slice-3.result.now soup tasks c.write_both-out.result.2
-    (record { earlier = record { run = search rules; mesh = mesh_read }; script = script_read })
+    (record { earlier = record { earlier = record { run = search rules; mesh = mesh_read }; manifold = begun.1 }; script = script_read })
     (subst (λ r. OnOk r (IsAtEnd (g.M.Source.left c.read_mesh-mesh.result.0))) c.in-Ok.is c.read_mesh-mesh.ensures.end)
     (subst (λ r. OnOk r (IsAtEnd (g.S.Source.left c.read_script-script.result.0))) c.in-Ok-read.is c.read_script-script.ensures.ok_end)
-    (c.slice-2.ensures ∙ c.in-Ok-texts_of.ensures.mesh)
-    (c.slice-3.ensures ∙ c.in-Ok-texts_of.ensures.report)
+    (c.slice-2.ensures ∙ c.in-Ok-texts_of.ensures.mesh ∙ ap (λ (m : Mesh). mesh_bytes (play one_leaf core_limit m tasks).mesh) begun.0)
+    (c.slice-3.ensures ∙ c.in-Ok-texts_of.ensures.report ∙ ap (λ (m : Mesh). report_text (play one_leaf core_limit m tasks)) begun.0)
     c.write_both-out.ensures.1
+
+pub returns-in-Err-read-clause-gives : goal.returns-in-Err-read-clause-gives
+returns-in-Err-read-clause-gives g c =
+    let left = g.M.Source.left c.args.io.mesh in
+    let script_left = g.S.Source.left c.args.io.script in
+    let soup = c.in-Ok.soup in
+    let mesh_read = subst (λ r. IfSome left (λ bytes. GivesSoup r (soup_of bytes))) c.in-Ok.is c.read_mesh-mesh.ensures.told in
+    let begun = subst (GivesStart soup) c.in-Ok-start_mesh.is c.start_mesh.ensures in
+    let script_told = subst (λ r. IfSome script_left (λ bytes. GivesScript r (script_of bytes))) c.in-Err-read.is c.read_script-script.ensures.told in
+    gives_script_fault c.args.words.now _ _ soup c.in-Err-read.fault c.end_of_script.result c.end_of_script.ensures
+    (record { earlier = record { run = search rules; mesh = mesh_read }; manifold = begun.1 })
+    script_told
+    (λ e. c.read_script-script.ensures.read (c.in-Err-read.is ∙ ap (λ (f : ScriptFault). Err f) e))

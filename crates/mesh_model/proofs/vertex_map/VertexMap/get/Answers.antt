@@ -5,4 +5,4 @@ use Rattle.mesh_model.proofs.vertex_map.VertexMap.get.Goals as goal
 
 pub returns : goal.returns
 returns c =
-    c.copied.ensures ∙ c.get.ensures.value ∙ sym (get_vertex c.self.inside.vertices.entries c.args.v) ∙ ap (λ m. finite.get m c.args.v) c.self.view_is
+    c.get.ensures.value ∙ sym (get_vertex c.self.inside.vertices.entries c.args.v) ∙ ap (λ m. finite.get m c.args.v) c.self.view_is

@@ -1,0 +1,42 @@
+//! The mesh that a run works on.
+
+ghost use Rattle.oemm_run.specs.Soup.{IsSoup};
+ghost use Rattle.oemm_run.specs.Shape.{GivesStart};
+
+use mesh_data::{Audit, Shape, Soup};
+use mesh_model::PlainMesh;
+use std::alloc::{AllocError, Global};
+
+/// Why a mesh isn't worked on.
+#[derive(Clone, Copy, Debug, PartialEq, Eq)]
+pub enum ShapeFault {
+    /// It is no oriented manifold.
+    Bad(Shape),
+    Memory,
+}
+
+impl From<AllocError> for ShapeFault {
+    ghost use Rattle.std.specs.Prelude.{◌≡◌};
+    ghost use Rattle.oemm_run.specs.declared.shape.ShapeFault.TheVariants.{Memory};
+
+    ghost from_gives = { λ _ fault. fault ≡ Memory };
+
+    fn from(_: AllocError) -> ShapeFault {
+        ShapeFault::Memory
+    }
+}
+
+/// The start mesh of points and faces, which is an oriented manifold.
+///
+/// # Errors
+/// The least directed edge that two faces have, else the least vertex that is in a face and has no ring.
+pub fn start_mesh(alloc: Global, soup: &Soup) -> Result<PlainMesh, ShapeFault>
+    requires { IsSoup soup.now }
+    ensures { GivesStart soup.now result }
+{
+    let mesh = PlainMesh::from_soup(alloc, soup.points.slice(), soup.faces.slice())?;
+    match mesh.audit(alloc)? {
+        Audit::Good { .. } => Ok(mesh),
+        Audit::Bad(shape) => Err(ShapeFault::Bad(shape)),
+    }
+}

@@ -1,0 +1,15 @@
+pub mod Sorting
+pub mod Orders
+pub mod EdgeSets
+pub mod Walks
+pub mod RingLaws
+pub mod Candidates
+pub mod Lookups
+pub mod Paths
+pub mod RingTests
+pub mod Links
+pub mod Counts
+pub mod Twice
+pub mod Groups
+pub mod Ringless
+pub mod EdgeCounts

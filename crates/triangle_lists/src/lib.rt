@@ -1,0 +1,17 @@
+//! Lists of triangles: their order, edges and border.
+#![tactic(auto)]
+
+mod audit;
+mod edge_sets;
+mod laws;
+mod rings;
+mod turning;
+
+pub use audit::first_fault;
+pub use edge_sets::{border_list, count_undirected};
+pub use laws::{closed_ring_laws, edge_laws};
+pub use rings::{find_ring, has_closed_ring, link_of};
+pub use turning::{turned_in_order, turned_tri};
+
+#[cfg(test)]
+mod tests;
