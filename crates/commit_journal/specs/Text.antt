@@ -4,22 +4,33 @@ use Rattle.std.specs.List.{flat_map}
 use Rattle.std.specs.Fmt.{decimal, signed_decimal}
 use Rattle.mesh_data.specs.Texts.{line}
 use Rattle.mesh_data.specs.declared.edits.Edit.{Edit}
-use Rattle.mesh_data.specs.declared.edits.Edit.TheVariants.{Move}
+use Rattle.mesh_data.specs.declared.edits.Edit.TheVariants.{Move, Collapse, Flip}
 use Rattle.mesh_data.specs.declared.edits.Reply.{Reply}
-use Rattle.mesh_data.specs.declared.edits.Reply.TheVariants.{Unheld, Frozen, Outside, Done}
+use Rattle.mesh_data.specs.declared.edits.Reply.TheVariants.{Unheld, Frozen, Same, Apart, Border, Link, Closed, Folds, Dear, Edge, Outside, Done, DoneAt}
 use Rattle.mesh_data.specs.declared.edits.Entry.{Entry}
 
 -- an edit's line, as a script has it
 abbrev pub edit_line : Edit → List ℕ
 edit_line (Move v to) =
     line (codes "move" ∷ decimal v ∷ signed_decimal to.x ∷ signed_decimal to.y ∷ signed_decimal to.z ∷ [])
+edit_line (Collapse u v max) = line (codes "collapse" ∷ decimal u ∷ decimal v ∷ signed_decimal max ∷ [])
+edit_line (Flip a b) = line (codes "flip" ∷ decimal a ∷ decimal b ∷ [])
 
 -- a reply's lines
 abbrev pub reply_lines : Reply → List (List ℕ)
 reply_lines (Unheld v) = line (codes "unheld" ∷ decimal v ∷ []) ∷ []
 reply_lines (Frozen v) = line (codes "frozen" ∷ decimal v ∷ []) ∷ []
+reply_lines Same = line (codes "same" ∷ []) ∷ []
+reply_lines Apart = line (codes "apart" ∷ []) ∷ []
+reply_lines Border = line (codes "border" ∷ []) ∷ []
+reply_lines (Link w) = line (codes "link" ∷ decimal w ∷ []) ∷ []
+reply_lines Closed = line (codes "closed" ∷ []) ∷ []
+reply_lines (Folds t) = line (codes "folds" ∷ decimal t.a ∷ decimal t.b ∷ decimal t.c ∷ []) ∷ []
+reply_lines (Dear cost) = line (codes "dear" ∷ signed_decimal cost ∷ []) ∷ []
+reply_lines (Edge c d) = line (codes "edge" ∷ decimal c ∷ decimal d ∷ []) ∷ []
 reply_lines Outside = line (codes "outside" ∷ []) ∷ []
 reply_lines Done = line (codes "done" ∷ []) ∷ []
+reply_lines (DoneAt cost) = line (codes "done" ∷ signed_decimal cost ∷ []) ∷ []
 
 -- the lines, each behind two spaces
 abbrev pub indented : List (List ℕ) → List ℕ

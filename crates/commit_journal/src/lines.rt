@@ -11,6 +11,8 @@ fn put_edit(text: &mut String, edit: &Edit) -> Result<(), AllocError>
 {
     match edit {
         Edit::Move { v, to } => write!(text, "move {} {} {} {}\n", v.0, to.x, to.y, to.z),
+        Edit::Collapse { u, v, max } => write!(text, "collapse {} {} {max}\n", u.0, v.0),
+        Edit::Flip { a, b } => write!(text, "flip {} {}\n", a.0, b.0),
     }
 }
 
@@ -20,8 +22,17 @@ fn put_reply(text: &mut String, reply: &Reply) -> Result<(), AllocError>
     match reply {
         Reply::Unheld(v) => write!(text, "  unheld {}\n", v.0),
         Reply::Frozen(v) => write!(text, "  frozen {}\n", v.0),
+        Reply::Same => write!(text, "  same\n"),
+        Reply::Apart => write!(text, "  apart\n"),
+        Reply::Border => write!(text, "  border\n"),
+        Reply::Link(w) => write!(text, "  link {}\n", w.0),
+        Reply::Closed => write!(text, "  closed\n"),
+        Reply::Folds(t) => write!(text, "  folds {} {} {}\n", t.a.0, t.b.0, t.c.0),
+        Reply::Dear(cost) => write!(text, "  dear {cost}\n"),
+        Reply::Edge(c, d) => write!(text, "  edge {} {}\n", c.0, d.0),
         Reply::Outside => write!(text, "  outside\n"),
         Reply::Done => write!(text, "  done\n"),
+        Reply::DoneAt(cost) => write!(text, "  done {cost}\n"),
     }
 }
 

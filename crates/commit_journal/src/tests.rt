@@ -1,5 +1,7 @@
 use crate::{journal_text, lane_part, line_text};
-use mesh_data::{Edit, Edits, Entries, Entry, Lane, LeafSet, Name, Point, Replies, Reply, Task};
+use mesh_data::{
+    Edit, Edits, Entries, Entry, Lane, LeafSet, Name, Point, Replies, Reply, Task, Tri,
+};
 use std::alloc::{AllocError, Global};
 use std::test::Fail;
 
@@ -98,6 +100,72 @@ fn entries_of_two_edits(rt: HostRuntime) -> Result<(), Fail> {
         let entry = entry(1, 2, wide, edits, replies, LeafSet::new(alloc));
         let text = line_text(alloc, 4, &entry)?;
         assert!(rt; text.slice() == lines.as_bytes());
+    }
+    Ok(())
+}
+
+const ONE_LANE: &str = "commit 0 lane 0 number 0 box -32768 -32768 -32768 32767 32767 32767\n";
+
+const FLIP: Edit = Edit::Flip {
+    a: Name(3),
+    b: Name(4),
+};
+
+const FACE: Tri = Tri {
+    a: Name(5),
+    b: Name(12),
+    c: Name(9),
+};
+
+const REPLIES: [(Reply, &str); 13] = [
+    (Reply::Unheld(Name(4294967295)), "unheld 4294967295"),
+    (Reply::Frozen(Name(0)), "frozen 0"),
+    (Reply::Same, "same"),
+    (Reply::Apart, "apart"),
+    (Reply::Border, "border"),
+    (Reply::Link(Name(17)), "link 17"),
+    (Reply::Closed, "closed"),
+    (Reply::Folds(FACE), "folds 5 12 9"),
+    (Reply::Dear(48), "dear 48"),
+    (Reply::Edge(Name(6), Name(30)), "edge 6 30"),
+    (Reply::Outside, "outside"),
+    (Reply::Done, "done"),
+    (Reply::DoneAt(-1), "done -1"),
+];
+
+#[test]
+fn replies_to_a_flip(rt: HostRuntime) -> Result<(), Fail> {
+    let alloc = rt.alloc();
+    for (reply, line) in REPLIES {
+        let entry = one_reply(alloc, 0, 0, FLIP, reply)?;
+        let lines = format!(in alloc; "{ONE_LANE}flip 3 4\n  {line}\n")?;
+        assert!(rt;
+            line_text(alloc, 0, &entry)?.slice() == lines.as_bytes(),
+            "{line}"
+        );
+    }
+    Ok(())
+}
+
+const GREATEST: &str = "collapse 8 0 85070591730234615865843651857942052864";
+
+#[test]
+fn bounds_of_a_collapse(rt: HostRuntime) -> Result<(), Fail> {
+    let alloc = rt.alloc();
+    for (max, line) in [(0, "collapse 8 0 0"), (1 << 126, GREATEST)] {
+        let (u, v) = (Name(8), Name(0));
+        let entry = one_reply(
+            alloc,
+            0,
+            0,
+            Edit::Collapse { u, v, max },
+            Reply::DoneAt(max),
+        )?;
+        let lines = format!(in alloc; "{ONE_LANE}{line}\n  done {max}\n")?;
+        assert!(rt;
+            line_text(alloc, 0, &entry)?.slice() == lines.as_bytes(),
+            "{line}"
+        );
     }
     Ok(())
 }

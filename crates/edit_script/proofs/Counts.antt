@@ -1,7 +1,7 @@
 -- A line with another number of words than it needs.
 use Rattle.std.proofs.Common.{◌≡◌, ◌≢◌, ℕ, List, [], ◌∷◌, length, Err, refl}
 use Rattle.mesh_data.specs.declared.items.ScriptWhy.TheVariants.{Words}
-use Rattle.edit_script.specs.Line.{task_says, move_says}
+use Rattle.edit_script.specs.Line.{task_says, move_says, collapse_says, flip_says}
 
 -- words behind `task` that aren't seven
 pub task_says_count : (words : List (List ℕ)) → length words ≢ 7 → task_says words ≡ Err Words
@@ -25,3 +25,20 @@ move_says_count (a ∷ b ∷ []) h = refl
 move_says_count (a ∷ b ∷ c ∷ []) h = refl
 move_says_count (a ∷ b ∷ c ∷ d ∷ []) h = absurd (h refl)
 move_says_count (a ∷ b ∷ c ∷ d ∷ e ∷ ws) h = refl
+
+-- words behind `collapse` that aren't three
+pub collapse_says_count : (words : List (List ℕ)) → length words ≢ 3 → collapse_says words ≡ Err Words
+unfolding collapse_says
+collapse_says_count [] h = refl
+collapse_says_count (a ∷ []) h = refl
+collapse_says_count (a ∷ b ∷ []) h = refl
+collapse_says_count (a ∷ b ∷ c ∷ []) h = absurd (h refl)
+collapse_says_count (a ∷ b ∷ c ∷ d ∷ ws) h = refl
+
+-- words behind `flip` that aren't two
+pub flip_says_count : (words : List (List ℕ)) → length words ≢ 2 → flip_says words ≡ Err Words
+unfolding flip_says
+flip_says_count [] h = refl
+flip_says_count (a ∷ []) h = refl
+flip_says_count (a ∷ b ∷ []) h = absurd (h refl)
+flip_says_count (a ∷ b ∷ c ∷ ws) h = refl

@@ -1,9 +1,9 @@
 -- What a line of a script says, by its words. Within a line the faults come in the order Word, Words, Number, Lane, Box.
-use Rattle.std.specs.Prelude.{ℕ, ◌^◌, nat_lt, Bool, ◌&&◌, bytes_eq, codes, List, [], ◌∷◌, Option, Some, None, Result, Ok, Err, option_and_then, ℤ, int_le, if◌then◌else◌}
+use Rattle.std.specs.Prelude.{ℕ, ◌^◌, nat_lt, Bool, ◌&&◌, bytes_eq, codes, List, [], ◌∷◌, Option, Some, None, Result, Ok, Err, option_and_then, ℤ, pos, int_le, if◌then◌else◌}
 use Rattle.oemm_lines.specs.Numbers.{whole_of, integer_of}
 use Rattle.mesh_data.specs.Octree.{on_grid}
 use Rattle.mesh_data.specs.declared.geometry.Point.{Point}
-use Rattle.mesh_data.specs.declared.edits.Edit.TheVariants.{Move}
+use Rattle.mesh_data.specs.declared.edits.Edit.TheVariants.{Move, Collapse, Flip}
 use Rattle.mesh_data.specs.declared.items.ScriptWhy.{ScriptWhy}
 use Rattle.mesh_data.specs.declared.items.ScriptWhy.TheVariants.{Word, Words, Number, Lane, Box}
 use Rattle.edit_script.specs.declared.line.LineMeaning.{LineMeaning}
@@ -34,6 +34,12 @@ name_of word = do
   n ← whole_of word
   if nat_lt n (2 ^ 32) then Some n else None
 
+-- the bound of a cost that a word writes
+unfoldable pub most_of : List ℕ → Option ℤ
+most_of word = do
+  n ← whole_of word
+  if nat_lt (2 ^ 126) n then None else Some (pos n)
+
 -- the low corner is at most the high one along each axis
 abbrev pub is_box : Point → Point → Bool
 is_box low high = int_le low.x high.x && int_le low.y high.y && int_le low.z high.z
@@ -53,6 +59,16 @@ abbrev pub move_of : Option ℕ → Option Point → Result LineMeaning ScriptWh
 move_of (Some v) (Some to) = Ok (EditLine (Move v to))
 move_of _ _ = Err Number
 
+-- the collapse of a name into another up to a bound, where these are numbers
+abbrev pub collapse_of : Option ℕ → Option ℕ → Option ℤ → Result LineMeaning ScriptWhy
+collapse_of (Some u) (Some v) (Some max) = Ok (EditLine (Collapse u v max))
+collapse_of _ _ _ = Err Number
+
+-- the flip of the edge of two names, where these are numbers
+abbrev pub flip_of : Option ℕ → Option ℕ → Result LineMeaning ScriptWhy
+flip_of (Some a) (Some b) = Ok (EditLine (Flip a b))
+flip_of _ _ = Err Number
+
 -- what the words behind `task` say
 unfoldable pub task_says : List (List ℕ) → Result LineMeaning ScriptWhy
 task_says (lane ∷ x ∷ y ∷ z ∷ x' ∷ y' ∷ z' ∷ []) = task_of (whole_of lane) (point_of x y z) (point_of x' y' z')
@@ -63,10 +79,22 @@ unfoldable pub move_says : List (List ℕ) → Result LineMeaning ScriptWhy
 move_says (v ∷ x ∷ y ∷ z ∷ []) = move_of (name_of v) (point_of x y z)
 move_says _ = Err Words
 
+-- what the words behind `collapse` say
+unfoldable pub collapse_says : List (List ℕ) → Result LineMeaning ScriptWhy
+collapse_says (u ∷ v ∷ max ∷ []) = collapse_of (name_of u) (name_of v) (most_of max)
+collapse_says _ = Err Words
+
+-- what the words behind `flip` say
+unfoldable pub flip_says : List (List ℕ) → Result LineMeaning ScriptWhy
+flip_says (a ∷ b ∷ []) = flip_of (name_of a) (name_of b)
+flip_says _ = Err Words
+
 -- what a line says, by its first word
 unfoldable pub line_says : List (List ℕ) → Result LineMeaning ScriptWhy
 line_says [] = Err Word
 line_says (word ∷ words) =
     if bytes_eq word (codes "task") then task_says words
     else if bytes_eq word (codes "move") then move_says words
+    else if bytes_eq word (codes "collapse") then collapse_says words
+    else if bytes_eq word (codes "flip") then flip_says words
     else Err Word

@@ -2,9 +2,9 @@ ghost use Rattle.std.specs.Prelude.{◌≡◌, ◌<◌, [], ◌∷◌, length, I
 ghost use Rattle.oemm_lines.specs.Numbers.{whole_of};
 ghost use Rattle.oemm_lines.specs.Words.{words_of};
 ghost use Rattle.edit_script.specs.Ranges.{IsWithin};
-ghost use Rattle.edit_script.specs.Line.{point_of, name_of, task_within, task_of, move_of, task_says, move_says, line_says};
+ghost use Rattle.edit_script.specs.Line.{point_of, name_of, most_of, task_within, task_of, move_of, collapse_of, flip_of, task_says, move_says, collapse_says, flip_says, line_says};
 
-use crate::numbers::{is_box, name, point};
+use crate::numbers::{is_box, most, name, point};
 use mesh_data::{Edit, Point, ScriptWhy};
 use oemm_lines::{next_word, whole};
 
@@ -97,6 +97,31 @@ fn move_of(v: &[u8], to: &PointWords) -> Result<LineMeaning, ScriptWhy>
     })
 }
 
+/// The collapse of a name's word into another, up to a bound's word.
+fn collapse_of(u: &[u8], v: &[u8], max: &[u8]) -> Result<LineMeaning, ScriptWhy>
+    ensures value { result ≡ collapse_of (name_of u.now) (name_of v.now) (most_of max.now) }
+    ensures within { IfOk result IsWithin }
+{
+    let u = name(u).ok_or(ScriptWhy::Number)?;
+    let v = name(v).ok_or(ScriptWhy::Number)?;
+    let max = most(max).ok_or(ScriptWhy::Number)?;
+    Ok(LineMeaning::EditLine {
+        edit: Edit::Collapse { u, v, max },
+    })
+}
+
+/// The flip of the edge of two names' words.
+fn flip_of(a: &[u8], b: &[u8]) -> Result<LineMeaning, ScriptWhy>
+    ensures value { result ≡ flip_of (name_of a.now) (name_of b.now) }
+    ensures within { IfOk result IsWithin }
+{
+    let a = name(a).ok_or(ScriptWhy::Number)?;
+    let b = name(b).ok_or(ScriptWhy::Number)?;
+    Ok(LineMeaning::EditLine {
+        edit: Edit::Flip { a, b },
+    })
+}
+
 /// What the words behind `task` say.
 #[tactic(auto, using(crate::proofs::Counts::task_says_count), unfolding(crate::specs::Line::task_says))]
 fn task_meaning(text: &[u8]) -> Result<LineMeaning, ScriptWhy>
@@ -122,6 +147,31 @@ fn move_meaning(text: &[u8]) -> Result<LineMeaning, ScriptWhy>
     move_of(v, &to)
 }
 
+/// What the words behind `collapse` say.
+#[tactic(auto, using(crate::proofs::Counts::collapse_says_count), unfolding(crate::specs::Line::collapse_says))]
+fn collapse_meaning(text: &[u8]) -> Result<LineMeaning, ScriptWhy>
+    ensures value { result ≡ collapse_says (words_of text.now) }
+    ensures within { IfOk result IsWithin }
+{
+    let (u, rest) = word(text)?;
+    let (v, rest) = word(rest)?;
+    let (max, rest) = word(rest)?;
+    no_word(rest)?;
+    collapse_of(u, v, max)
+}
+
+/// What the words behind `flip` say.
+#[tactic(auto, using(crate::proofs::Counts::flip_says_count), unfolding(crate::specs::Line::flip_says))]
+fn flip_meaning(text: &[u8]) -> Result<LineMeaning, ScriptWhy>
+    ensures value { result ≡ flip_says (words_of text.now) }
+    ensures within { IfOk result IsWithin }
+{
+    let (a, rest) = word(text)?;
+    let (b, rest) = word(rest)?;
+    no_word(rest)?;
+    flip_of(a, b)
+}
+
 /// What a line says.
 #[tactic(auto, unfolding(crate::specs::Line::line_says))]
 pub fn line_meaning(text: &[u8]) -> Result<LineMeaning, ScriptWhy>
@@ -135,6 +185,10 @@ pub fn line_meaning(text: &[u8]) -> Result<LineMeaning, ScriptWhy>
         task_meaning(rest)
     } else if first == b"move".as_slice() {
         move_meaning(rest)
+    } else if first == b"collapse".as_slice() {
+        collapse_meaning(rest)
+    } else if first == b"flip".as_slice() {
+        flip_meaning(rest)
     } else {
         Err(ScriptWhy::Word)
     }

@@ -1,5 +1,5 @@
 ghost use Rattle.std.specs.Prelude.{◌≡◌};
-ghost use Rattle.edit_script.specs.Line.{coordinate_of, name_of, point_of, is_box};
+ghost use Rattle.edit_script.specs.Line.{coordinate_of, name_of, most_of, point_of, is_box};
 
 use mesh_data::{Name, Point};
 use oemm_lines::{integer, whole};
@@ -40,6 +40,15 @@ pub fn name(word: &[u8]) -> Option<Name>
     } else {
         None
     }
+}
+
+/// The bound of a cost that a word writes.
+#[tactic(auto, unfolding(crate::specs::Line::most_of))]
+pub fn most(word: &[u8]) -> Option<i128>
+    ensures { result ≡ most_of word.now }
+{
+    let n = whole(word)?;
+    if n <= 1 << 126 { Some(n as i128) } else { None }
 }
 
 /// Whether the low corner is at most the high one along each axis.

@@ -58,47 +58,106 @@ fn expect_fault(rt: &impl Abort, alloc: Global, text: &[u8], line: u32, why: Scr
     assert_eq!(rt; found, Err(ScriptFault::Syntax { line, why }));
 }
 
+const TASK_FAULTS: [(&str, u32, ScriptWhy); 16] = [
+    ("simplify 0 1", 1, ScriptWhy::Word),
+    ("Task 0 0 0 0 0 0 0", 1, ScriptWhy::Word),
+    ("# task", 1, ScriptWhy::Word),
+    ("task", 1, ScriptWhy::Words),
+    ("task 0 0 0 0 0 0 x", 1, ScriptWhy::Number),
+    ("task x 0 0 0 0 0", 1, ScriptWhy::Words),
+    ("task 0 0 0 0 0 0 0 # all", 1, ScriptWhy::Words),
+    ("task 64 0 0 0 0 0 x", 1, ScriptWhy::Number),
+    ("task +1 0 0 0 0 0 0", 1, ScriptWhy::Number),
+    ("task 0 -32769 0 0 0 0 0", 1, ScriptWhy::Number),
+    ("task 0 0 0 0 0 0 32768", 1, ScriptWhy::Number),
+    ("task 64 5 0 0 4 0 0", 1, ScriptWhy::Lane),
+    (
+        "task 1000000000000000000000000000000000000000 0 0 0 0 0 0",
+        1,
+        ScriptWhy::Lane,
+    ),
+    ("task 0 5 0 0 4 0 0", 1, ScriptWhy::Box),
+    ("task 0 0 5 0 0 4 0", 1, ScriptWhy::Box),
+    ("task 0 0 0 5 0 0 4", 1, ScriptWhy::Box),
+];
+
+const EDIT_FAULTS: [(&str, u32, ScriptWhy); 16] = [
+    ("move 0 1", 1, ScriptWhy::Words),
+    ("move 0 1 2 x", 1, ScriptWhy::Number),
+    ("\n \nmove 0 1 2 3\nx", 3, ScriptWhy::NoTask),
+    (
+        "task 0 0 0 0 0 0 0\n\nmove 4294967296 0 0 0",
+        3,
+        ScriptWhy::Number,
+    ),
+    (
+        "\r\ntask 0 0 0 0 0 0 0\nmove 0 0 0 0 0\n",
+        3,
+        ScriptWhy::Words,
+    ),
+    ("collapse", 1, ScriptWhy::Words),
+    ("collapse 0 1", 1, ScriptWhy::Words),
+    ("collapse 0 1 2 3", 1, ScriptWhy::Words),
+    ("collapse 0 1 -5", 1, ScriptWhy::Number),
+    (
+        "collapse 0 1 85070591730234615865843651857942052865",
+        1,
+        ScriptWhy::Number,
+    ),
+    ("collapse 0 1 5", 1, ScriptWhy::NoTask),
+    ("flip 3", 1, ScriptWhy::Words),
+    ("flip 3 4 5", 1, ScriptWhy::Words),
+    ("flip 3 x", 1, ScriptWhy::Number),
+    ("flip -3 4", 1, ScriptWhy::Number),
+    ("flip 4294967296 0", 1, ScriptWhy::Number),
+];
+
 #[test]
 fn the_first_fault_is_found(rt: HostRuntime) {
-    let rows: [(&[u8], u32, ScriptWhy); 22] = [
-        (b"flip 0 1", 1, ScriptWhy::Word),
-        (b"Task 0 0 0 0 0 0 0", 1, ScriptWhy::Word),
-        (b"# task", 1, ScriptWhy::Word),
-        (b"collapse", 1, ScriptWhy::Word),
-        (b"task", 1, ScriptWhy::Words),
-        (b"task 0 0 0 0 0 0 x", 1, ScriptWhy::Number),
-        (b"task x 0 0 0 0 0", 1, ScriptWhy::Words),
-        (b"task 0 0 0 0 0 0 0 # all", 1, ScriptWhy::Words),
-        (b"task 64 0 0 0 0 0 x", 1, ScriptWhy::Number),
-        (b"task +1 0 0 0 0 0 0", 1, ScriptWhy::Number),
-        (b"task 0 -32769 0 0 0 0 0", 1, ScriptWhy::Number),
-        (b"task 0 0 0 0 0 0 32768", 1, ScriptWhy::Number),
-        (b"task 64 5 0 0 4 0 0", 1, ScriptWhy::Lane),
-        (
-            b"task 1000000000000000000000000000000000000000 0 0 0 0 0 0",
-            1,
-            ScriptWhy::Lane,
-        ),
-        (b"task 0 5 0 0 4 0 0", 1, ScriptWhy::Box),
-        (b"task 0 0 5 0 0 4 0", 1, ScriptWhy::Box),
-        (b"task 0 0 0 5 0 0 4", 1, ScriptWhy::Box),
-        (b"move 0 1", 1, ScriptWhy::Words),
-        (b"move 0 1 2 x", 1, ScriptWhy::Number),
-        (b"\n \nmove 0 1 2 3\nx", 3, ScriptWhy::NoTask),
-        (
-            b"task 0 0 0 0 0 0 0\n\nmove 4294967296 0 0 0",
-            3,
-            ScriptWhy::Number,
-        ),
-        (
-            b"\r\ntask 0 0 0 0 0 0 0\nmove 0 0 0 0 0\n",
-            3,
-            ScriptWhy::Words,
-        ),
-    ];
-    for (text, line, why) in rows {
-        expect_fault(&rt, rt.alloc(), text, line, why);
+    for rows in [TASK_FAULTS, EDIT_FAULTS] {
+        for (text, line, why) in rows {
+            expect_fault(&rt, rt.alloc(), text.as_bytes(), line, why);
+        }
     }
+}
+
+/// The edit of a script of one task with one edit.
+fn one_edit(alloc: Global, text: &str) -> Result<Option<Edit>, ScriptFault> {
+    let script = read(alloc, text.as_bytes())?;
+    let task = script.tasks.slice().first();
+    Ok(task.and_then(|task| task.edits.slice().first().copied()))
+}
+
+const COLLAPSE: &str = "task 0 0 0 0 0 0 0\ncollapse 0 1 5";
+
+const DEAREST: &str =
+    "task 0 0 0 0 0 0 0\ncollapse 4294967295 01 85070591730234615865843651857942052864";
+
+const FLIP: &str = "task 0 0 0 0 0 0 0\nflip 3 4";
+
+fn collapse(u: u32, v: u32, max: i128) -> Edit {
+    Edit::Collapse {
+        u: Name(u),
+        v: Name(v),
+        max,
+    }
+}
+
+#[test]
+fn edits_are_read(rt: HostRuntime) -> Result<(), Fail> {
+    let flip = Edit::Flip {
+        a: Name(3),
+        b: Name(4),
+    };
+    let dearest = collapse(4294967295, 1, 1 << 126);
+    for (text, edit) in [
+        (COLLAPSE, collapse(0, 1, 5)),
+        (DEAREST, dearest),
+        (FLIP, flip),
+    ] {
+        assert_eq!(rt; one_edit(rt.alloc(), text)?, Some(edit), "{text}");
+    }
+    Ok(())
 }
 
 #[test]

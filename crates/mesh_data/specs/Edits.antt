@@ -1,19 +1,31 @@
 -- What an edit answers, and what it makes of the mesh. An area is the test of the points that lie in it.
-use Rattle.std.specs.Prelude.{ℕ, Bool, false, not, ◌&&◌, List, [], ◌∷◌, if◌then◌else◌}
-use Rattle.std.specs.List.{list_all}
-use Rattle.std.specs.Option.{option_map_or}
+use Rattle.std.specs.Prelude.{ℕ, Bool, true, false, not, ◌&&◌, ◌==◌, min, max, ℤ, int_le, List, [], ◌∷◌, ◌++◌, map, filter, Option, Some, None, if◌then◌else◌}
+use Rattle.std.specs.List.{list_all, find}
+use Rattle.std.specs.Option.{option_map_or, is_none}
+use Rattle.std.specs.FinMap as finite
 use Rattle.mesh_data.specs.declared.geometry.Point.{Point}
+use Rattle.mesh_data.specs.declared.geometry.Tri.{Tri}
+use Rattle.mesh_data.specs.declared.planes.Plane.{Plane}
 use Rattle.mesh_data.specs.declared.edits.Edit.{Edit}
-use Rattle.mesh_data.specs.declared.edits.Edit.TheVariants.{Move}
+use Rattle.mesh_data.specs.declared.edits.Edit.TheVariants.{Move, Collapse, Flip}
 use Rattle.mesh_data.specs.declared.edits.Reply.{Reply}
-use Rattle.mesh_data.specs.declared.edits.Reply.TheVariants.{Unheld, Frozen, Outside, Done}
-use Rattle.mesh_data.specs.Mesh.{Mesh, point_of, with_vertex}
-use Rattle.mesh_data.specs.Triangles.{neighbours}
+use Rattle.mesh_data.specs.declared.edits.Reply.TheVariants.{Unheld, Frozen, Same, Apart, Border, Link, Closed, Folds, Dear, Edge, Outside, Done, DoneAt}
+use Rattle.mesh_data.specs.Ascending.{in_order}
+use Rattle.mesh_data.specs.Links.{has_both, are_neighbours, opposites, least_shared, is_closed_by_three}
+use Rattle.mesh_data.specs.Mesh.{Mesh, origin, point_of, planes_of, with_vertex}
+use Rattle.mesh_data.specs.Planes.{plane_of, folds, squares}
+use Rattle.mesh_data.specs.Rings.{has_closed_ring}
+use Rattle.mesh_data.specs.Triangles.{has_corner, neighbours, tri_cmp, turned}
 
 -- the reply of the first line whose test holds, else the last one
 abbrev pub first_line : List (Bool × Reply) → Reply → Reply
 first_line [] last = last
 first_line (line ∷ lines) last = if line.0 then line.1 else first_line lines last
+
+-- a line whose test is that there is something, which its reply tells
+abbrev pub if_any : {A : Type 0} → (A → Reply) → Option A → Bool × Reply
+if_any reply None = (false, Done)
+if_any reply (Some x) = (true, reply x)
 
 -- the mesh has the vertex, in the area
 abbrev pub is_held : (Point → Bool) → Mesh → ℕ → Bool
@@ -31,17 +43,111 @@ move_verdict inside m v to = first_line (
     ∷ (not (inside to), Outside)
     ∷ []) Done
 
+-- the first lines of an edit of two vertices
+abbrev pub pair_lines : (Point → Bool) → Mesh → ℕ → ℕ → List (Bool × Reply)
+pair_lines inside m u v =
+    (not (is_held inside m u), Unheld u)
+    ∷ (not (is_held inside m v), Unheld v)
+    ∷ (u == v, Same)
+    ∷ (not (is_free inside m u), Frozen u)
+    ∷ (not (is_free inside m v), Frozen v)
+    ∷ (not (are_neighbours m.tris u v), Apart)
+    ∷ []
+
+-- the point of a vertex, and the origin where the mesh lacks it
+abbrev pub point_or_origin : Mesh → ℕ → Point
+point_or_origin m v = option_map_or (λ p. p) (point_of m v) origin
+
+-- the planes of a vertex, and none where the mesh lacks it
+abbrev pub planes_or_none : Mesh → ℕ → List Plane
+planes_or_none m v = option_map_or (λ planes. planes) (planes_of m v) []
+
+-- the plane in which a triangle of the mesh lies
+abbrev pub plane_in : Mesh → Tri → Plane
+plane_in m t = plane_of (point_or_origin m t.a) (point_or_origin m t.b) (point_or_origin m t.c)
+
+-- v in the place of u
+abbrev pub renamed : ℕ → ℕ → ℕ → ℕ
+renamed u v w = if w == u then v else w
+
+-- the triangle with v in the place of u
+abbrev pub put_for : ℕ → ℕ → Tri → Tri
+put_for u v t = record { a = renamed u v t.a; b = renamed u v t.b; c = renamed u v t.c }
+
+-- the triangle has u and not v, and folds where v is put for u
+abbrev pub folds_with : Mesh → ℕ → ℕ → Tri → Bool
+folds_with m u v t = has_corner u t && not (has_corner v t) && folds (plane_in m t) (plane_in m (put_for u v t))
+
+-- what it costs to collapse u onto v: the squared distances of v from the planes of both, where planes aren't normalised
+-- (Garland and Heckbert, 1997)
+abbrev pub cost : Mesh → ℕ → ℕ → ℤ
+cost m u v = squares (planes_or_none m u ++ planes_or_none m v) (point_or_origin m v)
+
+-- what a collapse of u onto v answers
+abbrev pub collapse_verdict : (Point → Bool) → Mesh → ℕ → ℕ → ℤ → Reply
+collapse_verdict inside m u v most = first_line (pair_lines inside m u v ++ (
+    (not (has_closed_ring m.tris u), Border)
+    ∷ if_any Link (least_shared m.tris u v)
+    ∷ (is_closed_by_three m.tris u && is_closed_by_three m.tris v, Closed)
+    ∷ if_any Folds (find (folds_with m u v) m.tris)
+    ∷ (not (int_le (cost m u v) most), Dear (cost m u v))
+    ∷ [])) (DoneAt (cost m u v))
+
+-- the line of a flip that refuses an edge which is there already
+abbrev pub edge_line : List Tri → Option (ℕ × ℕ) → Bool × Reply
+edge_line ts None = (false, Done)
+edge_line ts (Some ends) = (are_neighbours ts ends.0 ends.1, Edge (min ends.0 ends.1) (max ends.0 ends.1))
+
+-- what a flip of the edge of a and b answers
+abbrev pub flip_verdict : (Point → Bool) → Mesh → ℕ → ℕ → Reply
+flip_verdict inside m a b = first_line (pair_lines inside m a b ++ (
+    (is_none (opposites m.tris a b), Border)
+    ∷ edge_line m.tris (opposites m.tris a b)
+    ∷ [])) Done
+
 -- the mesh with v at another point
 abbrev pub moved : Mesh → ℕ → Point → Mesh
 moved m v to = with_vertex m v (λ x. record x { point = to })
 
+-- the triangles without those that have u and v, and with v for u in the others
+unfoldable pub collapsed_tris : ℕ → ℕ → List Tri → List Tri
+collapsed_tris u v ts = in_order tri_cmp (map (λ t. turned (put_for u v t)) (filter (λ t. not (has_both u v t)) ts))
+
+-- the mesh with u collapsed onto v, which takes over the planes of u
+abbrev pub collapsed : Mesh → ℕ → ℕ → Mesh
+collapsed m u v = record {
+  vertices = finite.remove (with_vertex m v (λ x. record x { planes = x.planes ++ planes_or_none m u })).vertices u;
+  tris = collapsed_tris u v m.tris;
+}
+
+-- the triangles with the two at the edge of a and b turned to the edge of c and d
+unfoldable pub flipped_tris : ℕ → ℕ → ℕ → ℕ → List Tri → List Tri
+flipped_tris a b c d ts =
+    in_order tri_cmp (turned (record { a = a; b = d; c = c }) ∷ turned (record { a = d; b = b; c = c }) ∷ filter (λ t. not (has_both a b t)) ts)
+
+-- the mesh with the edge of a and b flipped, if it has a triangle in either direction
+abbrev pub flipped : Mesh → ℕ → ℕ → Mesh
+flipped m a b =
+    option_map_or (λ ends. record { vertices = m.vertices; tris = flipped_tris a b ends.0 ends.1 m.tris }) (opposites m.tris a b) m
+
 -- what an edit answers
 abbrev pub verdict : (Point → Bool) → Mesh → Edit → Reply
 verdict inside m (Move v to) = move_verdict inside m v to
+verdict inside m (Collapse u v most) = collapse_verdict inside m u v most
+verdict inside m (Flip a b) = flip_verdict inside m a b
+
+-- the edit was made
+abbrev pub is_done : Reply → Bool
+is_done Done = true
+is_done (DoneAt cost_of) = true
+is_done _ = false
+
+-- what an edit that is done makes of the mesh
+abbrev pub done : Mesh → Edit → Mesh
+done m (Move v to) = moved m v to
+done m (Collapse u v most) = collapsed m u v
+done m (Flip a b) = flipped m a b
 
 -- the mesh that an edit leaves, by its answer
 abbrev pub after : Mesh → Edit → Reply → Mesh
-after m (Move v to) Done = moved m v to
-after m (Move v to) (Unheld w) = m
-after m (Move v to) (Frozen w) = m
-after m (Move v to) Outside = m
+after m e reply = if is_done reply then done m e else m

@@ -4,6 +4,7 @@ pub mod Triangles
 pub mod Rings
 pub mod Mesh
 pub mod Manifold
+pub mod Links
 pub mod Edits
 pub mod Work
 pub mod Reading

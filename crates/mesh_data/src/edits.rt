@@ -1,4 +1,4 @@
-use crate::geometry::Point;
+use crate::geometry::{Point, Tri};
 use crate::list::{Copied, List};
 use crate::names::{Lane, Name};
 use crate::sets::LeafSet;
@@ -9,6 +9,10 @@ use std::alloc::{AllocError, Global};
 pub enum Edit {
     /// Puts a vertex at another point.
     Move { v: Name, to: Point },
+    /// Puts `v` for `u`, where that costs at most `max`.
+    Collapse { u: Name, v: Name, max: i128 },
+    /// Turns the edge of `a` and `b`, between its two triangles, to their other two vertices.
+    Flip { a: Name, b: Name },
 }
 
 /// The edits of a task, in their order.
@@ -21,10 +25,29 @@ pub enum Reply {
     Unheld(Name),
     /// This vertex has a neighbour that isn't held.
     Frozen(Name),
+    /// The two vertices are one.
+    Same,
+    /// No triangle has both vertices.
+    Apart,
+    /// The vertex that is to go has no closed ring, or the edge that is to be flipped has one triangle.
+    Border,
+    /// Both vertices have this neighbour, which doesn't lie opposite of their edge; it is the least one.
+    Link(Name),
+    /// The two vertices are those of a closed surface of four triangles.
+    Closed,
+    /// This triangle would fold; it is the least one.
+    Folds(Tri),
+    /// The collapse costs this much, which is more than it may.
+    Dear(i128),
+    /// There is an edge already between these vertices, which lie opposite of the edge that is to be flipped. The
+    /// lesser name comes first.
+    Edge(Name, Name),
     /// The new point's home lies outside the core.
     Outside,
     /// The edit was made.
     Done,
+    /// The collapse was made, at this cost.
+    DoneAt(i128),
 }
 
 /// The replies to the edits of a task, in their order.

@@ -28,6 +28,15 @@ pub struct Vertex {
     pub planes: Planes,
 }
 
+impl Copied for Vertex {
+    fn copy(&self, alloc: Global) -> Result<Vertex, AllocError> {
+        Ok(Vertex {
+            point: self.point,
+            planes: self.planes.copy(alloc)?,
+        })
+    }
+}
+
 /// A triangle, seen from the side from which its names go round counterclockwise.
 #[derive(Clone, Copy, Debug, PartialEq, Eq, PartialOrd, Ord)]
 pub struct Tri {

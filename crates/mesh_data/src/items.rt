@@ -22,6 +22,7 @@ pub enum What {
     Faces,
     MeshBytes,
     ScriptBytes,
+    LineBytes,
     Tasks,
     Edits,
 }
@@ -35,6 +36,8 @@ pub enum MeshWhy {
     Words,
     /// A word that must be a number isn't one, or a count is above 2^64 - 1.
     Number,
+    /// A coordinate isn't a whole number.
+    NotInteger { vertex: u32 },
     /// A coordinate lies outside the grid.
     OutOfRange { vertex: u32 },
     /// A face hasn't three indices.

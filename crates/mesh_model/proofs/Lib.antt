@@ -1,6 +1,8 @@
 pub mod Vertices
 pub mod Stars
 pub mod Totals
+pub mod Copies
+pub mod Lines
 pub mod Stocks
 pub mod PlaneLists
 pub mod Starts

@@ -8,8 +8,8 @@ use Rattle.mesh_data.specs.declared.geometry.Tri.{Tri}
 use Rattle.mesh_data.specs.declared.planes.Plane.{Plane}
 use Rattle.mesh_data.specs.Mesh.{plane_at, planes_at}
 use Rattle.mesh_data.specs.Triangles.{IsProper, IsBelow, has_corner, star}
-use Rattle.mesh_model.specs.Totals.{is_bounded}
-use Rattle.mesh_model.proofs.Stocks.{large_of, none_large-push}
+use Rattle.mesh_model.specs.Totals.{is_bounded, large_of}
+use Rattle.mesh_model.proofs.Stocks.{none_large-push}
 
 pub all_empty-push : (xs : List (List Plane)) (v : ℕ) → ((w : ℕ) → get_or xs w [] ≡ []) → get_or (xs ++ [] ∷ []) v [] ≡ []
 all_empty-push [] zero h = refl

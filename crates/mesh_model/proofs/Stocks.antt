@@ -12,7 +12,7 @@ use Rattle.mesh_data.specs.declared.geometry.Vertex.{Vertex}
 use Rattle.mesh_data.specs.declared.planes.Plane.{Plane}
 use Rattle.mesh_data.specs.Mesh.{named_from, planes_at, plane_at}
 use Rattle.mesh_data.specs.Triangles.{has_corner, star}
-use Rattle.mesh_model.specs.Totals.{total, total_in, plane_count, large_count, is_bounded}
+use Rattle.mesh_model.specs.Totals.{total, total_in, plane_count, large_of, large_count, is_bounded}
 use Rattle.mesh_model.proofs.Totals.{at, total-insert, total-empty}
 use Rattle.mesh_model.proofs.Vertices.{find-named_from}
 
@@ -76,10 +76,6 @@ pub three_for_each : (points : List Point) (ts : List Tri) (n : ℕ) (ps : List 
 three_for_each points [] n ps = omega (arith, no_counts points n ps)
 three_for_each points (t ∷ ts) n ps =
     omega (arith, one_more points t ts n ps, corner_hits t n ps, one_hit t.a n ps, one_hit t.b n ps, one_hit t.c n ps, three_for_each points ts n ps)
-
--- how many of these planes are large
-abbrev pub large_of : List Plane → ℕ
-large_of ls = count_by (λ l. not (is_bounded l)) ls
 
 pub none_large-push : (ls : List Plane) (l : Plane) → large_of ls ≡ 0 → is_bounded l ≡ true → large_of (ls ++ l ∷ []) ≡ 0
 none_large-push ls l none bounded =

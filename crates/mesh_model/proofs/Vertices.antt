@@ -41,6 +41,12 @@ one_given es fs v x h = finite.same_map nat_cmp_total nat_cmp-IsAntisymmetric _ 
     get_vertex fs w ∙ h w ∙ ap (λ (b : Bool). cond b (Some x) (vertex_at es w)) ((eq_by_cmp_equiv nat_cmp_total).symm v w)
     ∙ sym (finite.get-insert nat_cmp_total (finite.from_entries es) v x w ∙ ap (cond (eq_by_cmp nat_cmp w v) (Some x)) (get_vertex es w)))
 
+-- entries that lack one name make the map without it
+pub one_removed : (es fs : Entries) (v : ℕ) → ((w : ℕ) → vertex_at fs w ≡ cond (is_at (nat_cmp v) w) None (vertex_at es w)) → finite.from_entries {R = nat_cmp} fs ≡ finite.remove (finite.from_entries es) v
+one_removed es fs v h = finite.same_map nat_cmp_total nat_cmp-IsAntisymmetric _ _ (λ w.
+    get_vertex fs w ∙ h w ∙ ap (λ (b : Bool). cond b None (vertex_at es w)) ((eq_by_cmp_equiv nat_cmp_total).symm v w)
+    ∙ sym (finite.get-remove nat_cmp_total (finite.from_entries es) v w ∙ ap (cond (eq_by_cmp nat_cmp w v) None) (get_vertex es w)))
+
 below_all_is : (v : ℕ) (es : Entries) → AllByRecursion (λ k. nat_cmp v k ≡ Less) (keys_of es) → below_all nat_cmp v es ≡ true
 below_all_is v [] h = refl
 below_all_is v (e ∷ es) h = (λ i. is_lt (h.0 i) && below_all_is v es h.1 i)

@@ -2,9 +2,12 @@
 #![tactic(auto)]
 
 mod areas;
+mod costs;
+mod effects;
 mod laws;
 mod plain_mesh;
 mod plane_lists;
+mod verdicts;
 mod vertex_map;
 
 pub use areas::{Area, core_leaves};

@@ -9,7 +9,6 @@ ghost use Rattle.mesh_data.specs.Octree.{AreCells, is_inside};
 ghost use Rattle.mesh_data.specs.Triangles.{IsProper, IsBelow, corners, has_corner};
 ghost use Rattle.mesh_data.specs.Work.{work, do_task, wide_entry};
 
-use crate::areas::{Area, core_leaves};
 use crate::plane_lists::plane_lists;
 use crate::vertex_map::VertexMap;
 use mesh_data::{
@@ -24,8 +23,8 @@ use triangle_lists::{border_list, count_undirected, first_fault, turned_in_order
 /// each turned so that its least name comes first, in order. The vertices have at most 3 · 2^24 planes.
 #[derive(Drop)]
 pub struct PlainMesh {
-    vertices: VertexMap,
-    tris: Vec<Tri>,
+    pub(crate) vertices: VertexMap,
+    pub(crate) tris: Vec<Tri>,
 }
 
 impl Model for PlainMesh {
@@ -65,44 +64,13 @@ impl PlainMesh {
         Ok(PlainMesh { vertices, tris })
     }
 
-    /// Answers one edit, and makes it where the answer is `Done`. For want of memory the mesh is unchanged.
-    pub fn do_edit(&mut self, alloc: Global, area: &Area, edit: &Edit) -> Result<Reply, AllocError>
-        ensures reply { IfOk result (λ r. r ≡ verdict (is_inside area.now) self.old edit.now) }
-        ensures mesh { OnOk result (self.new
-            ≡ after self.old edit.now (verdict (is_inside area.now) self.old edit.now)) }
-        ensures err { OnErr result (self.new ≡ self.old) }
+    /// A copy.
+    pub(crate) fn copy(&self, alloc: Global) -> Result<PlainMesh, AllocError>
+        ensures { IfOk result (λ copy. copy ≡ self.now) }
     {
-        Ok(self.edited(area, edit))
-    }
-
-    /// Does the task's edits in order on the core of its box. A task whose core has more than `limit` leaves is
-    /// wide and changes nothing. For want of memory the mesh is unchanged.
-    pub fn do_task(
-        &mut self,
-        alloc: Global,
-        cells: &Cells,
-        limit: u32,
-        task: &Task,
-    ) -> Result<Entry, AllocError>
-        requires octree { AreCells cells.now }
-        requires few { length cells.now < 2 ^ 32 }
-        ensures entry { IfOk result (λ e. e ≡ (do_task cells.now limit self.old task.now).entry) }
-        ensures mesh { OnOk result (self.new ≡ (do_task cells.now limit self.old task.now).mesh) }
-        ensures err { OnErr result (self.new ≡ self.old) }
-    {
-        let copy = task.copy(alloc)?;
-        let core = core_leaves(alloc, cells, &task.low, &task.high)?;
-        if core.len() > limit as usize {
-            return Ok(wide_entry(alloc, copy));
-        }
-        let area = Area::of(alloc, cells, &core)?;
-        let replies = Vec::with_capacity(alloc, task.edits.len())?;
-        let replies = self.worked(&area, task.edits.slice(), replies);
-        Ok(Entry {
-            task: copy,
-            wide: false,
-            replies: List::from_vec(replies),
-            core,
+        Ok(PlainMesh {
+            vertices: self.vertices.copy(alloc)?,
+            tris: Vec::from_slice(alloc, self.tris.as_slice())?,
         })
     }
 
@@ -195,107 +163,5 @@ impl PlainMesh {
         ensures few { IfOk result (λ edges. length edges ≤ 3 * 16777216) }
     {
         border_list(alloc, self.tris.as_slice())
-    }
-
-    /// Whether the mesh has the vertex, in the area.
-    fn is_held(&self, area: &Area, v: Name) -> bool
-        ensures { result ≡ is_held (is_inside area.now) self.now v }
-    {
-        match self.vertices.point(v) {
-            Some(point) => area.holds(&point),
-            None => false,
-        }
-    }
-
-    /// Whether the triangle lacks the vertex, or its other names are held.
-    fn frees(&self, area: &Area, v: Name, t: &Tri) -> bool
-        ensures { result ≡ (not (has_corner v t.now) || list_all (is_held (is_inside area.now) self.now) (filter (λ w. not (w == v)) (corners t.now))) }
-    {
-        if t.a != v && t.b != v && t.c != v {
-            return true;
-        }
-        (t.a == v || self.is_held(area, t.a))
-            && (t.b == v || self.is_held(area, t.b))
-            && (t.c == v || self.is_held(area, t.c))
-    }
-
-    /// Whether each triangle lacks the vertex or has its other names held.
-    fn all_free(&self, area: &Area, v: Name) -> bool
-        ensures { result ≡ list_all (λ t. not (has_corner v t) || list_all (is_held (is_inside area.now) self.now) (filter (λ w. not (w == v)) (corners t))) self.now.tris }
-    {
-        self.tris.iter().all(|t| self.frees(area, v, t))
-    }
-
-    /// Whether the vertex and all its neighbours are held.
-    fn is_free(&self, area: &Area, v: Name) -> bool
-        ensures { result ≡ is_free (is_inside area.now) self.now v }
-    {
-        self.is_held(area, v) && self.all_free(area, v)
-    }
-
-    /// What a move answers.
-    fn move_reply(&self, area: &Area, v: Name, to: &Point) -> Reply
-        ensures { result ≡ move_verdict (is_inside area.now) self.now v to.now }
-    {
-        if !self.is_held(area, v) {
-            Reply::Unheld(v)
-        } else if !self.is_free(area, v) {
-            Reply::Frozen(v)
-        } else if !area.holds(to) {
-            Reply::Outside
-        } else {
-            Reply::Done
-        }
-    }
-
-    /// Puts a vertex at another point, if the mesh has it.
-    fn move_to(&mut self, v: Name, to: Point)
-        ensures { self.new ≡ moved self.old v to }
-    {
-        self.vertices.set_point(v, to);
-    }
-
-    /// Answers one edit, and makes it where the answer is `Done`. It takes no memory.
-    fn edited(&mut self, area: &Area, edit: &Edit) -> Reply
-        ensures reply { result ≡ verdict (is_inside area.now) self.old edit.now }
-        ensures mesh { self.new ≡ after self.old edit.now result }
-    {
-        match edit {
-            Edit::Move { v, to } => {
-                let reply = self.move_reply(area, *v, to);
-                if reply == Reply::Done {
-                    self.move_to(*v, *to);
-                }
-                reply
-            }
-        }
-    }
-
-    /// Does the edits in order, and puts their replies behind those that are there, which have room for them.
-    fn worked(&mut self, area: &Area, edits: &[Edit], mut replies: Vec<Reply>) -> Vec<Reply>
-        requires empty { replies.items ≡ [] }
-        requires room { length edits.now ≤ vec_capacity replies }
-        ensures mesh { self.new ≡ (work (is_inside area.now) self.old edits.now).mesh }
-        ensures replies { result.items ≡ (work (is_inside area.now) self.old edits.now).replies }
-    {
-        for edit in edits {
-            let reply = self.edited(area, edit);
-            match replies.push(reply) {
-                Ok(()) => {}
-                Err(_) => unreachable!(),
-            }
-        }
-        replies
-    }
-}
-
-fn wide_entry(alloc: Global, task: Task) -> Entry
-    ensures { result ≡ wide_entry task }
-{
-    Entry {
-        task,
-        wide: true,
-        replies: List::new(alloc),
-        core: LeafSet::new(alloc),
     }
 }

@@ -312,3 +312,106 @@ fn a_wide_task_changes_nothing(rt: HostRuntime) -> Result<(), Fail> {
     assert_eq!(rt; mesh.point(Name(1)), Some(at(0, 0, 0)));
     Ok(())
 }
+
+fn collapse(u: u32, v: u32, max: i128) -> Edit {
+    Edit::Collapse {
+        u: Name(u),
+        v: Name(v),
+        max,
+    }
+}
+
+fn flip(a: u32, b: u32) -> Edit {
+    Edit::Flip {
+        a: Name(a),
+        b: Name(b),
+    }
+}
+
+/// What an edit answers where all vertices are held.
+fn answer(alloc: Global, mesh: &mut PlainMesh, edit: &Edit) -> Result<Reply, AllocError> {
+    let cells = octree(alloc, 0, &[0])?;
+    let core = core_leaves(alloc, &cells, &at(0, 0, 0), &at(0, 0, 0))?;
+    let area = Area::of(alloc, &cells, &core)?;
+    mesh.do_edit(alloc, &area, edit)
+}
+
+#[test]
+fn an_octahedron_is_collapsed_at_its_cost(rt: HostRuntime) -> Result<(), Fail> {
+    let mut mesh = mesh_of(rt.alloc(), &OCTAHEDRON, &OCTAHEDRON_FACES)?;
+    let dear = answer(rt.alloc(), &mut mesh, &collapse(4, 0, 32767))?;
+    assert_eq!(rt; dear, Reply::Dear(32768));
+    let done = answer(rt.alloc(), &mut mesh, &collapse(4, 0, 32768))?;
+    assert_eq!(rt; done, Reply::DoneAt(32768));
+    assert!(rt; is_good(rt.alloc(), &mesh, [5, 6, 0], 2)?);
+    assert_eq!(rt; mesh.planes(Name(0)).map(|planes| planes.len()), Some(8));
+    Ok(())
+}
+
+#[test]
+fn a_tetrahedron_stays_as_it_is(rt: HostRuntime) -> Result<(), Fail> {
+    let mut mesh = tetrahedron(rt.alloc())?;
+    let closed = answer(rt.alloc(), &mut mesh, &collapse(0, 1, 999999))?;
+    assert_eq!(rt; closed, Reply::Closed);
+    let edge = answer(rt.alloc(), &mut mesh, &flip(0, 1))?;
+    assert_eq!(rt; edge, Reply::Edge(Name(2), Name(3)));
+    assert!(rt; is_good(rt.alloc(), &mesh, [4, 4, 0], 2)?);
+    Ok(())
+}
+
+#[test]
+fn a_diagonal_is_flipped_once(rt: HostRuntime) -> Result<(), Fail> {
+    let mut mesh = mesh_of(rt.alloc(), &SQUARE, &[[0, 1, 2], [1, 3, 2]])?;
+    let border = answer(rt.alloc(), &mut mesh, &collapse(0, 1, 9))?;
+    assert_eq!(rt; border, Reply::Border);
+    assert_eq!(rt; answer(rt.alloc(), &mut mesh, &flip(0, 1))?, Reply::Border);
+    assert_eq!(rt; answer(rt.alloc(), &mut mesh, &flip(1, 2))?, Reply::Done);
+    assert_eq!(rt; answer(rt.alloc(), &mut mesh, &flip(1, 2))?, Reply::Apart);
+    let tris = [tri(0, 1, 3), tri(0, 3, 2)];
+    assert_eq!(rt; mesh.tris(rt.alloc())?.slice(), tris.as_slice());
+    Ok(())
+}
+
+const DOUBLE_PYRAMID: [[i16; 3]; 5] = [[6, 0, 0], [0, 6, 0], [-6, -6, 0], [0, 0, 6], [0, 0, -6]];
+
+const DOUBLE_PYRAMID_FACES: [[u32; 3]; 6] = [
+    [0, 1, 3],
+    [1, 2, 3],
+    [2, 0, 3],
+    [1, 0, 4],
+    [2, 1, 4],
+    [0, 2, 4],
+];
+
+#[test]
+fn a_double_pyramid_becomes_a_tetrahedron(rt: HostRuntime) -> Result<(), Fail> {
+    let mut mesh = mesh_of(rt.alloc(), &DOUBLE_PYRAMID, &DOUBLE_PYRAMID_FACES)?;
+    for (edit, want) in [
+        (collapse(0, 1, 0), Reply::Link(Name(2))),
+        (collapse(3, 0, 500000), Reply::DoneAt(419904)),
+        (collapse(4, 0, 500000), Reply::Closed),
+        (collapse(3, 0, 1), Reply::Unheld(Name(3))),
+    ] {
+        assert_eq!(rt; answer(rt.alloc(), &mut mesh, &edit)?, want);
+    }
+    assert!(rt; is_good(rt.alloc(), &mesh, [4, 4, 0], 2)?);
+    Ok(())
+}
+
+const FAN: [[i16; 3]; 5] = [[0, 0, 0], [10, 0, 0], [1, 1, 0], [0, 10, 0], [-10, -10, 0]];
+
+const FAN_FACES: [[u32; 3]; 4] = [[0, 1, 2], [0, 2, 3], [0, 3, 4], [0, 4, 1]];
+
+#[test]
+fn a_fan_folds_or_not(rt: HostRuntime) -> Result<(), Fail> {
+    let mut mesh = mesh_of(rt.alloc(), &FAN, &FAN_FACES)?;
+    for (edit, want) in [
+        (collapse(0, 0, 0), Reply::Same),
+        (collapse(0, 1, 0), Reply::Folds(tri(0, 2, 3))),
+        (collapse(0, 2, 0), Reply::DoneAt(0)),
+    ] {
+        assert_eq!(rt; answer(rt.alloc(), &mut mesh, &edit)?, want);
+    }
+    assert!(rt; is_good(rt.alloc(), &mesh, [4, 2, 4], 1)?);
+    Ok(())
+}

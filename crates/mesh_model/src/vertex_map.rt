@@ -4,9 +4,10 @@ ghost use Rattle.std.specs.Option.{option_copied, option_map, option_map_or};
 ghost use Rattle.std.specs.BTreeMap.{IsOrdered, values};
 ghost use Rattle.std.specs.Ordering.{nat_cmp};
 ghost use Rattle.std.specs.FinMap as finite;
-ghost use Rattle.mesh_data.specs.Mesh.{named_from};
+ghost use Rattle.mesh_data.specs.Mesh.{named_from, origin};
+ghost use Rattle.mesh_model.specs.Taken.{planes_in, taken_over};
 
-use mesh_data::{List, Name, NameSet, Planes, Point, Points, Vertex};
+use mesh_data::{Copied, List, Name, NameSet, Plane, Planes, Point, Points, Vertex};
 use std::alloc::{AllocError, Global};
 use std::collections::BTreeMap;
 use std::marker::Model;
@@ -94,6 +95,37 @@ impl VertexMap {
         Some(&vertex.planes)
     }
 
+    /// The point of a name, and the origin where it has no vertex.
+    pub fn point_or_origin(&self, v: Name) -> Point
+        ensures { result ≡ option_map_or (λ p. p) (option_map (λ x. x.point) (finite.get self.now v)) origin }
+    {
+        match self.point(v) {
+            Some(point) => point,
+            None => Point { x: 0, y: 0, z: 0 },
+        }
+    }
+
+    /// The planes of a name, and none where it has no vertex.
+    pub fn planes_or_none(&self, v: Name) -> &[Plane]
+        ensures { result.now ≡ planes_in self.now v }
+    {
+        match self.planes(v) {
+            Some(planes) => planes.slice(),
+            None => &[],
+        }
+    }
+
+    /// A copy.
+    pub fn copy(&self, alloc: Global) -> Result<VertexMap, AllocError>
+        ensures { IfOk result (λ copy. copy ≡ self.now) }
+    {
+        let mut copy = VertexMap::new(alloc);
+        for (name, vertex) in self.vertices.iter() {
+            copy.insert(*name, vertex.copy(alloc)?)?;
+        }
+        Ok(copy)
+    }
+
     /// Puts a vertex at a name. For want of memory nothing is changed.
     pub fn insert(&mut self, v: Name, vertex: Vertex) -> Result<(), AllocError>
         ensures ok { OnOk result (self.new ≡ finite.insert self.old v vertex) }
@@ -111,6 +143,34 @@ impl VertexMap {
         if let Some(vertex) = self.vertices.get_mut(&v) {
             vertex.point = to;
         }
+    }
+
+    /// Gives the vertex of a name other planes, and does nothing at a name without one. It takes no memory.
+    fn set_planes(&mut self, v: Name, planes: Planes)
+        ensures { self.new ≡ option_map_or (λ x. finite.insert self.old v (record x { planes = planes })) (finite.get self.old v) self.old }
+    {
+        if let Some(vertex) = self.vertices.get_mut(&v) {
+            vertex.planes = planes;
+        }
+    }
+
+    /// Takes the vertex of a name away, if it has one. It takes no memory.
+    fn remove(&mut self, v: Name)
+        ensures { self.new ≡ finite.remove self.old v }
+    {
+        self.vertices.remove(&v);
+    }
+
+    /// Puts the planes of `u` behind those of `v`, and takes `u` away. For want of memory nothing is changed.
+    pub fn take_over(&mut self, alloc: Global, u: Name, v: Name) -> Result<(), AllocError>
+        ensures ok { OnOk result (self.new ≡ taken_over self.old u v) }
+        ensures err { OnErr result (self.new ≡ self.old) }
+    {
+        let mut planes = Vec::from_slice(alloc, self.planes_or_none(v))?;
+        planes.extend_from_slice(self.planes_or_none(u))?;
+        self.set_planes(v, List::from_vec(planes));
+        self.remove(u);
+        Ok(())
     }
 
     /// The names, ascending.

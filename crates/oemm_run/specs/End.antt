@@ -30,6 +30,7 @@ abbrev pub mesh_why_text : MeshWhy → List ℕ
 mesh_why_text mesh_why.Head = codes "Head"
 mesh_why_text mesh_why.Words = codes "Words"
 mesh_why_text mesh_why.Number = codes "Number"
+mesh_why_text (mesh_why.NotInteger v) = codes "NotInteger " ++ decimal v
 mesh_why_text (mesh_why.OutOfRange v) = codes "OutOfRange " ++ decimal v
 mesh_why_text (mesh_why.NotTriangle f) = codes "NotTriangle " ++ decimal f
 mesh_why_text (mesh_why.BadIndex f) = codes "BadIndex " ++ decimal f
@@ -53,6 +54,7 @@ what_text what.Vertices = codes "Vertices"
 what_text what.Faces = codes "Faces"
 what_text what.MeshBytes = codes "MeshBytes"
 what_text what.ScriptBytes = codes "ScriptBytes"
+what_text what.LineBytes = codes "LineBytes"
 what_text what.Tasks = codes "Tasks"
 what_text what.Edits = codes "Edits"
 

@@ -84,6 +84,7 @@ fn put_mesh_why(text: &mut String, why: &MeshWhy) -> Result<(), AllocError>
         MeshWhy::Head => text.push_str("Head"),
         MeshWhy::Words => text.push_str("Words"),
         MeshWhy::Number => text.push_str("Number"),
+        MeshWhy::NotInteger { vertex } => write!(text, "NotInteger {vertex}"),
         MeshWhy::OutOfRange { vertex } => write!(text, "OutOfRange {vertex}"),
         MeshWhy::NotTriangle { face } => write!(text, "NotTriangle {face}"),
         MeshWhy::BadIndex { face } => write!(text, "BadIndex {face}"),
@@ -113,6 +114,7 @@ fn what_name(what: &What) -> &'static str
         What::Faces => "Faces",
         What::MeshBytes => "MeshBytes",
         What::ScriptBytes => "ScriptBytes",
+        What::LineBytes => "LineBytes",
         What::Tasks => "Tasks",
         What::Edits => "Edits",
     }

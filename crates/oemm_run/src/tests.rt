@@ -102,6 +102,40 @@ fn empty_mesh_and_tetrahedron(rt: HostRuntime) -> Result<(), Fail> {
     Ok(())
 }
 
+const OCTAHEDRON: &str =
+    "OFF\n6 8 0\n4 0 0\n-4 0 0\n0 4 0\n0 -4 0\n0 0 4\n0 0 -4\n3 0 2 4\n3 2 1 4\n3 1 3 4\n3 3 0 4\n3 2 0 5\n3 1 2 5\n3 3 1 5\n3 0 3 5\n";
+
+const PYRAMID: &str =
+    "OFF\n5 6 0\n4 0 0\n-4 0 0\n0 4 0\n0 -4 0\n0 0 -4\n3 0 1 3\n3 0 2 1\n3 0 3 4\n3 0 4 2\n3 1 2 4\n3 1 4 3\n";
+
+#[test]
+fn the_octahedrons_cheapest_collapse(rt: HostRuntime) -> Result<(), Fail> {
+    let script =
+        "task 0 -32768 -32768 -32768 32767 32767 32767\ncollapse 4 0 32767\ncollapse 4 0 32768\n";
+    let done = run_on(rt.alloc(), &RUN, OCTAHEDRON.as_bytes(), script, 99, NONE)?;
+    assert_eq!(rt; done.end, End::Done);
+    assert_eq!(rt; done.out.as_slice(), PYRAMID.as_bytes());
+    let report =
+        "commit 0 lane 0 number 0 box -32768 -32768 -32768 32767 32767 32767\ncollapse 4 0 32767\n  dear 32768\ncollapse 4 0 32768\n  done 32768\nvertices 5 faces 6 euler 2 border 0\n";
+    assert_eq!(rt; done.report.as_slice(), report.as_bytes());
+    Ok(())
+}
+
+const SQUARE: &str =
+    "OFF\n4 2 0\n-32767 -32767 -16\n32767 -32767 2\n-32767 32767 6\n32767 32767 -9\n3 0 1 2\n3 1 3 2\n";
+
+#[test]
+fn the_diagonal_of_a_square_is_flipped_once(rt: HostRuntime) -> Result<(), Fail> {
+    let script =
+        "task 0 -32768 -32768 -32768 32767 32767 32767\ncollapse 0 1 9\nflip 1 2\nflip 1 2\n";
+    let done = run_on(rt.alloc(), &RUN, SQUARE.as_bytes(), script, 99, NONE)?;
+    assert_eq!(rt; done.end, End::Done);
+    let report =
+        "commit 0 lane 0 number 0 box -32768 -32768 -32768 32767 32767 32767\ncollapse 0 1 9\n  border\nflip 1 2\n  done\nflip 1 2\n  apart\nvertices 4 faces 2 euler 1 border 4\n";
+    assert_eq!(rt; done.report.as_slice(), report.as_bytes());
+    Ok(())
+}
+
 #[test]
 fn words_in_no_form(rt: HostRuntime) -> Result<(), Fail> {
     for out in ["c.obj", "c.OFF", "-c.off", "--x.off", ""] {
@@ -221,7 +255,7 @@ fn meshes_that_are_no_manifold(rt: HostRuntime) -> Result<(), Fail> {
 #[test]
 fn faults_of_the_script(rt: HostRuntime) -> Result<(), Fail> {
     for (script, line, why) in [
-        ("flip 0 1\n", 1, ScriptWhy::Word),
+        ("turn 0 1\n", 1, ScriptWhy::Word),
         ("\nmove 0 1\n", 2, ScriptWhy::Words),
         ("task 0 x 0 0 1 1 1\n", 1, ScriptWhy::Number),
         ("task 64 0 0 0 1 1 1\n", 1, ScriptWhy::Lane),

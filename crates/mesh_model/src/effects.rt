@@ -1,0 +1,187 @@
+//! Edits and tasks on the whole mesh.
+
+ghost use Rattle.std.specs.Prelude.{◌≡◌, ◌≢◌, ◌<◌, ◌^◌, ℕ, length, true, Some, IfOk, OnOk, OnErr};
+ghost use Rattle.std.specs.FinMap as finite;
+ghost use Rattle.mesh_data.specs.Edits.{moved, collapsed, flipped, verdict, after};
+ghost use Rattle.mesh_data.specs.Links.{opposites};
+ghost use Rattle.mesh_data.specs.Octree.{AreCells, is_inside};
+ghost use Rattle.mesh_data.specs.declared.edits.Edit.TheVariants.{Move, Collapse, Flip};
+ghost use Rattle.mesh_data.specs.Work.{work, do_task, wide_entry};
+
+use crate::areas::{Area, core_leaves};
+use crate::plain_mesh::PlainMesh;
+use mesh_data::{Cells, Copied, Edit, Entry, LeafSet, List, Name, Point, Replies, Reply, Task};
+use std::alloc::{AllocError, Global};
+use triangle_edits::{apex, collapsed_tris, flipped_tris};
+
+impl PlainMesh {
+    /// Answers one edit, and makes it where the answer is `Done` or `DoneAt`. For want of memory the mesh is unchanged.
+    /// It takes time of about F log F for F triangles.
+    pub fn do_edit(&mut self, alloc: Global, area: &Area, edit: &Edit) -> Result<Reply, AllocError>
+        ensures reply { IfOk result (λ r. r ≡ verdict (is_inside area.now) self.old edit.now) }
+        ensures mesh { OnOk result (self.new
+            ≡ after self.old edit.now (verdict (is_inside area.now) self.old edit.now)) }
+        ensures err { OnErr result (self.new ≡ self.old) }
+    {
+        match edit {
+            Edit::Move { v, to } => Ok(self.do_move(area, *v, *to)),
+            Edit::Collapse { u, v, max } => self.do_collapse(alloc, area, *u, *v, *max),
+            Edit::Flip { a, b } => self.do_flip(alloc, area, *a, *b),
+        }
+    }
+
+    /// Does the task's edits in order on the core of its box. A task whose core has more than `limit` leaves is
+    /// wide and changes nothing. For want of memory the mesh is unchanged.
+    pub fn do_task(
+        &mut self,
+        alloc: Global,
+        cells: &Cells,
+        limit: u32,
+        task: &Task,
+    ) -> Result<Entry, AllocError>
+        requires octree { AreCells cells.now }
+        requires few { length cells.now < 2 ^ 32 }
+        ensures entry { IfOk result (λ e. e ≡ (do_task cells.now limit self.old task.now).entry) }
+        ensures mesh { OnOk result (self.new ≡ (do_task cells.now limit self.old task.now).mesh) }
+        ensures err { OnErr result (self.new ≡ self.old) }
+    {
+        let copy = task.copy(alloc)?;
+        let core = core_leaves(alloc, cells, &task.low, &task.high)?;
+        if core.len() > limit as usize {
+            return Ok(wide_entry(alloc, copy));
+        }
+        let area = Area::of(alloc, cells, &core)?;
+        let replies = self.work(alloc, &area, task.edits.slice())?;
+        Ok(Entry {
+            task: copy,
+            wide: false,
+            replies,
+            core,
+        })
+    }
+
+    /// Does the edits in order, and answers their replies. For want of memory the mesh is unchanged.
+    fn work(&mut self, alloc: Global, area: &Area, edits: &[Edit]) -> Result<Replies, AllocError>
+        ensures mesh { OnOk result (self.new ≡ (work (is_inside area.now) self.old edits.now).mesh) }
+        ensures replies { IfOk result (λ rs. rs ≡ (work (is_inside area.now) self.old edits.now).replies) }
+        ensures err { OnErr result (self.new ≡ self.old) }
+    {
+        let mut mesh = self.copy(alloc)?;
+        let replies = mesh.do_edits(alloc, area, edits)?;
+        *self = mesh;
+        Ok(replies)
+    }
+
+    /// Does the edits in order, and answers their replies. For want of memory some may have been done.
+    fn do_edits(
+        &mut self,
+        alloc: Global,
+        area: &Area,
+        edits: &[Edit],
+    ) -> Result<Replies, AllocError>
+        ensures mesh { OnOk result (self.new ≡ (work (is_inside area.now) self.old edits.now).mesh) }
+        ensures replies { IfOk result (λ rs. rs ≡ (work (is_inside area.now) self.old edits.now).replies) }
+    {
+        let mut replies = Vec::new(alloc);
+        for edit in edits {
+            let reply = self.do_edit(alloc, area, edit)?;
+            replies.push(reply)?;
+        }
+        Ok(List::from_vec(replies))
+    }
+
+    /// Answers a move, and makes it where the answer is `Done`.
+    fn do_move(&mut self, area: &Area, v: Name, to: Point) -> Reply
+        ensures reply { result ≡ verdict (is_inside area.now) self.old (Move v to) }
+        ensures mesh { self.new ≡ after self.old (Move v to) result }
+    {
+        let reply = self.move_reply(area, v, &to);
+        if reply == Reply::Done {
+            self.move_to(v, to);
+        }
+        reply
+    }
+
+    /// Answers a collapse, and makes it where the answer is `DoneAt`. For want of memory the mesh is unchanged.
+    fn do_collapse(
+        &mut self,
+        alloc: Global,
+        area: &Area,
+        u: Name,
+        v: Name,
+        max: i128,
+    ) -> Result<Reply, AllocError>
+        ensures reply { IfOk result (λ r. r ≡ verdict (is_inside area.now) self.old (Collapse u v max)) }
+        ensures mesh { IfOk result (λ r. self.new ≡ after self.old (Collapse u v max) r) }
+        ensures err { OnErr result (self.new ≡ self.old) }
+    {
+        let reply = self.collapse_reply(alloc, area, u, v, max)?;
+        if let Reply::DoneAt(_) = reply {
+            self.collapse(alloc, u, v)?;
+        }
+        Ok(reply)
+    }
+
+    /// Answers a flip, and makes it where the answer is `Done`. For want of memory the mesh is unchanged.
+    fn do_flip(&mut self, alloc: Global, area: &Area, a: Name, b: Name) -> Result<Reply, AllocError>
+        ensures reply { IfOk result (λ r. r ≡ verdict (is_inside area.now) self.old (Flip a b)) }
+        ensures mesh { IfOk result (λ r. self.new ≡ after self.old (Flip a b) r) }
+        ensures err { OnErr result (self.new ≡ self.old) }
+    {
+        let reply = self.flip_reply(area, a, b);
+        if let Reply::Done = reply {
+            self.flip(alloc, a, b)?;
+        }
+        Ok(reply)
+    }
+
+    /// Puts a vertex at another point, if the mesh has it.
+    fn move_to(&mut self, v: Name, to: Point)
+        ensures { self.new ≡ moved self.old v to }
+    {
+        self.vertices.set_point(v, to);
+    }
+
+    /// Puts `v` for `u`. For want of memory the mesh is unchanged.
+    fn collapse(&mut self, alloc: Global, u: Name, v: Name) -> Result<(), AllocError>
+        requires apart { u ≢ v }
+        requires there { finite.contains_key self.old.vertices v ≡ true }
+        ensures ok { OnOk result (self.new ≡ collapsed self.old u v) }
+        ensures err { OnErr result (self.new ≡ self.old) }
+    {
+        let tris = collapsed_tris(alloc, self.tris.as_slice(), u, v)?;
+        self.vertices.take_over(alloc, u, v)?;
+        self.tris = tris;
+        Ok(())
+    }
+
+    /// Turns the edge of `a` and `b` to the two names that lie opposite of it, if they differ. For want of memory the
+    /// mesh is unchanged.
+    fn flip(&mut self, alloc: Global, a: Name, b: Name) -> Result<(), AllocError>
+        requires apart { a ≢ b }
+        requires ends { (c d : ℕ) → opposites self.old.tris a b ≡ Some (c, d) → c ≢ d }
+        ensures ok { OnOk result (self.new ≡ flipped self.old a b) }
+        ensures err { OnErr result (self.new ≡ self.old) }
+    {
+        let tris = self.tris.as_slice();
+        let Some(c) = apex(tris, a, b) else {
+            return Ok(());
+        };
+        let Some(d) = apex(tris, b, a) else {
+            return Ok(());
+        };
+        self.tris = flipped_tris(alloc, tris, a, b, c, d)?;
+        Ok(())
+    }
+}
+
+fn wide_entry(alloc: Global, task: Task) -> Entry
+    ensures { result ≡ wide_entry task }
+{
+    Entry {
+        task,
+        wide: true,
+        replies: List::new(alloc),
+        core: LeafSet::new(alloc),
+    }
+}
