@@ -1,12 +1,13 @@
 -- The journal's text: for each entry its head line, then its edits' lines, each with its reply's lines below it.
-use Rattle.std.specs.Prelude.{ℕ, ◌+◌, List, [], ◌∷◌, ◌++◌, codes, if◌then◌else◌, Option, Some, None}
+use Rattle.std.specs.Prelude.{ℕ, ◌+◌, List, [], ◌∷◌, ◌++◌, map, codes, if◌then◌else◌, Option, Some, None}
 use Rattle.std.specs.List.{flat_map}
 use Rattle.std.specs.Fmt.{decimal, signed_decimal}
 use Rattle.mesh_data.specs.Texts.{line}
 use Rattle.mesh_data.specs.declared.edits.Edit.{Edit}
-use Rattle.mesh_data.specs.declared.edits.Edit.TheVariants.{Move, Collapse, Flip}
+use Rattle.mesh_data.specs.declared.edits.Edit.TheVariants.{Move, Collapse, Flip, Simplify}
+use Rattle.mesh_data.specs.declared.edits.Step.{Step}
 use Rattle.mesh_data.specs.declared.edits.Reply.{Reply}
-use Rattle.mesh_data.specs.declared.edits.Reply.TheVariants.{Unheld, Frozen, Same, Apart, Border, Link, Closed, Folds, Dear, Edge, Outside, Done, DoneAt}
+use Rattle.mesh_data.specs.declared.edits.Reply.TheVariants.{Unheld, Frozen, Same, Apart, Border, Link, Closed, Folds, Dear, Edge, Outside, Done, DoneAt, Simplified}
 use Rattle.mesh_data.specs.declared.edits.Entry.{Entry}
 
 -- an edit's line, as a script has it
@@ -15,6 +16,11 @@ edit_line (Move v to) =
     line (codes "move" ∷ decimal v ∷ signed_decimal to.x ∷ signed_decimal to.y ∷ signed_decimal to.z ∷ [])
 edit_line (Collapse u v max) = line (codes "collapse" ∷ decimal u ∷ decimal v ∷ signed_decimal max ∷ [])
 edit_line (Flip a b) = line (codes "flip" ∷ decimal a ∷ decimal b ∷ [])
+edit_line (Simplify max target) = line (codes "simplify" ∷ signed_decimal max ∷ decimal target ∷ [])
+
+-- the line of a collapse that a simplification made, with its cost
+abbrev pub step_line : Step → List ℕ
+step_line s = line (codes "collapse" ∷ decimal s.u ∷ decimal s.v ∷ signed_decimal s.cost ∷ [])
 
 -- a reply's lines
 abbrev pub reply_lines : Reply → List (List ℕ)
@@ -31,6 +37,7 @@ reply_lines (Edge c d) = line (codes "edge" ∷ decimal c ∷ decimal d ∷ []) 
 reply_lines Outside = line (codes "outside" ∷ []) ∷ []
 reply_lines Done = line (codes "done" ∷ []) ∷ []
 reply_lines (DoneAt cost) = line (codes "done" ∷ signed_decimal cost ∷ []) ∷ []
+reply_lines (Simplified steps left) = map step_line steps ++ line (codes "simplified" ∷ decimal left ∷ []) ∷ []
 
 -- the lines, each behind two spaces
 abbrev pub indented : List (List ℕ) → List ℕ

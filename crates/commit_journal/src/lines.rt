@@ -1,9 +1,9 @@
-ghost use Rattle.std.specs.Prelude.{◌≡◌, ◌++◌, OnOk};
+ghost use Rattle.std.specs.Prelude.{◌≡◌, ◌++◌, map, OnOk};
 ghost use Rattle.std.specs.Option.{option_copied};
 ghost use Rattle.std.specs.String.{string_bytes};
-ghost use Rattle.commit_journal.specs.Text.{edit_line, reply_lines, indented, answered_edit, answered_edits, head_line};
+ghost use Rattle.commit_journal.specs.Text.{edit_line, step_line, reply_lines, indented, answered_edit, answered_edits, head_line};
 
-use mesh_data::{Edit, Entry, Reply};
+use mesh_data::{Edit, Entry, Reply, Step};
 use std::alloc::AllocError;
 
 fn put_edit(text: &mut String, edit: &Edit) -> Result<(), AllocError>
@@ -13,7 +13,24 @@ fn put_edit(text: &mut String, edit: &Edit) -> Result<(), AllocError>
         Edit::Move { v, to } => write!(text, "move {} {} {} {}\n", v.0, to.x, to.y, to.z),
         Edit::Collapse { u, v, max } => write!(text, "collapse {} {} {max}\n", u.0, v.0),
         Edit::Flip { a, b } => write!(text, "flip {} {}\n", a.0, b.0),
+        Edit::Simplify { max, target } => write!(text, "simplify {max} {target}\n"),
     }
+}
+
+fn put_steps(text: &mut String, steps: &[Step]) -> Result<(), AllocError>
+    ensures { OnOk result (string_bytes text.new ≡ string_bytes text.old ++ indented (map step_line steps.now)) }
+{
+    for step in steps {
+        write!(text, "  collapse {} {} {}\n", step.u.0, step.v.0, step.cost)?;
+    }
+    Ok(())
+}
+
+fn put_simplified(text: &mut String, steps: &[Step], left: u32) -> Result<(), AllocError>
+    ensures { OnOk result (string_bytes text.new ≡ string_bytes text.old ++ indented (reply_lines (Reply.Simplified steps.now left))) }
+{
+    put_steps(text, steps)?;
+    write!(text, "  simplified {left}\n")
 }
 
 fn put_reply(text: &mut String, reply: &Reply) -> Result<(), AllocError>
@@ -33,6 +50,7 @@ fn put_reply(text: &mut String, reply: &Reply) -> Result<(), AllocError>
         Reply::Outside => write!(text, "  outside\n"),
         Reply::Done => write!(text, "  done\n"),
         Reply::DoneAt(cost) => write!(text, "  done {cost}\n"),
+        Reply::Simplified { steps, left } => put_simplified(text, steps.slice(), *left),
     }
 }
 

@@ -1,6 +1,6 @@
 use crate::{journal_text, lane_part, line_text};
 use mesh_data::{
-    Edit, Edits, Entries, Entry, Lane, LeafSet, Name, Point, Replies, Reply, Task, Tri,
+    Edit, Edits, Entries, Entry, Lane, LeafSet, Name, Point, Replies, Reply, Step, Steps, Task, Tri,
 };
 use std::alloc::{AllocError, Global};
 use std::test::Fail;
@@ -165,6 +165,46 @@ fn bounds_of_a_collapse(rt: HostRuntime) -> Result<(), Fail> {
         assert!(rt;
             line_text(alloc, 0, &entry)?.slice() == lines.as_bytes(),
             "{line}"
+        );
+    }
+    Ok(())
+}
+
+const SIMPLIFY: Edit = Edit::Simplify {
+    max: 40000,
+    target: 6,
+};
+
+const STEPS: [Step; 2] = [
+    Step {
+        u: Name(0),
+        v: Name(2),
+        cost: 32768,
+    },
+    Step {
+        u: Name(4294967295),
+        v: Name(1),
+        cost: 0,
+    },
+];
+
+const TWO_STEPS: &str = "  collapse 0 2 32768
+  collapse 4294967295 1 0
+  simplified 6
+";
+
+const NO_STEP: &str = "  simplified 8\n";
+
+#[test]
+fn simplifications(rt: HostRuntime) -> Result<(), Fail> {
+    let alloc = rt.alloc();
+    for (steps, left, reply) in [(STEPS.as_slice(), 6, TWO_STEPS), (&[], 8, NO_STEP)] {
+        let steps = Steps::from_vec(Vec::from_slice(alloc, steps)?);
+        let entry = one_reply(alloc, 0, 0, SIMPLIFY, Reply::Simplified { steps, left })?;
+        let lines = format!(in alloc; "{ONE_LANE}simplify 40000 6\n{reply}")?;
+        assert!(rt;
+            line_text(alloc, 0, &entry)?.slice() == lines.as_bytes(),
+            "{reply}"
         );
     }
     Ok(())

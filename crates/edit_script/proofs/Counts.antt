@@ -1,7 +1,7 @@
 -- A line with another number of words than it needs.
 use Rattle.std.proofs.Common.{◌≡◌, ◌≢◌, ℕ, List, [], ◌∷◌, length, Err, refl}
 use Rattle.mesh_data.specs.declared.items.ScriptWhy.TheVariants.{Words}
-use Rattle.edit_script.specs.Line.{task_says, move_says, collapse_says, flip_says}
+use Rattle.edit_script.specs.Line.{task_says, move_says, collapse_says, flip_says, simplify_says}
 
 -- words behind `task` that aren't seven
 pub task_says_count : (words : List (List ℕ)) → length words ≢ 7 → task_says words ≡ Err Words
@@ -42,3 +42,11 @@ flip_says_count [] h = refl
 flip_says_count (a ∷ []) h = refl
 flip_says_count (a ∷ b ∷ []) h = absurd (h refl)
 flip_says_count (a ∷ b ∷ c ∷ ws) h = refl
+
+-- words behind `simplify` that aren't two
+pub simplify_says_count : (words : List (List ℕ)) → length words ≢ 2 → simplify_says words ≡ Err Words
+unfolding simplify_says
+simplify_says_count [] h = refl
+simplify_says_count (a ∷ []) h = refl
+simplify_says_count (a ∷ b ∷ []) h = absurd (h refl)
+simplify_says_count (a ∷ b ∷ c ∷ ws) h = refl

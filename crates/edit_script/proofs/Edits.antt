@@ -1,7 +1,7 @@
 -- An edit behind those of the last task.
-use Rattle.std.proofs.Common.{◌≡◌, ℕ, ◌+◌, ◌<◌, ◌≤◌, List, [], ◌∷◌, ◌++◌, length, Ok, Err, refl, set, get_or, arith, ap, sym, ◌∙◌, subst, cond, nat_lt, true, false, Result, sum_by, suc, Bool, ◌==◌, take, ◌⊎◌, inl, inr}
+use Rattle.std.proofs.Common.{◌≡◌, ℕ, ◌+◌, ◌<◌, ◌≤◌, List, [], ◌∷◌, ◌++◌, length, Ok, Err, refl, set, get_or, arith, ap, sym, ◌∙◌, subst, cond, nat_lt, true, false, Result, sum_by, suc, Bool, All, ◌==◌, take, ◌⊎◌, inl, inr}
 use Rattle.std.proofs.lemmas.List.Sums.{sum_by-set}
-use Rattle.std.proofs.lemmas.List.Elements.{All-set, All-get_or}
+use Rattle.std.proofs.lemmas.List.Elements.{All-set, All-get_or, All-push}
 use Rattle.std.proofs.lemmas.List.{length-set, get_or-set_same, get_or-set_other, take-set-le}
 use Rattle.std.proofs.lemmas.Bool.{cases_eq}
 use Rattle.std.proofs.lemmas.Bool.Decides.{nat_tests}
@@ -12,7 +12,7 @@ use Rattle.mesh_data.specs.declared.items.What.TheVariants.{Edits}
 use Rattle.edit_script.specs.declared.fault.ScriptFault.{ScriptFault}
 use Rattle.edit_script.specs.declared.fault.ScriptFault.TheVariants.{Syntax, TooMany}
 use Rattle.edit_script.specs.Grammar.{with_edit, edited, most_edits, lane_count, ◌>>=◌}
-use Rattle.edit_script.specs.Ranges.{IsDraft, IsTask, AreNumbered}
+use Rattle.edit_script.specs.Ranges.{IsDraft, IsTask, IsEdit, AreNumbered}
 
 -- no task
 pub with_edit_none :
@@ -113,13 +113,14 @@ numbered_edit tasks last task edits whole e numbered k d h =
 
 -- an edit leaves what is kept of the tasks
 pub kept_by_edit :
-    (counts : List ℕ) (tasks : List Task) (last : ℕ) (task : Task) (edits : List Edit) → length tasks ≡ last + 1 →
-    task ≡ get_or tasks last task → length edits ≤ most_edits → IsDraft counts tasks →
+    (counts : List ℕ) (tasks : List Task) (last : ℕ) (task : Task) (edit : Edit) (edits : List Edit) → length tasks ≡ last + 1 →
+    task ≡ get_or tasks last task → edits ≡ task.edits ++ edit ∷ [] → IsEdit edit → length edits ≤ most_edits → IsDraft counts tasks →
     IsDraft counts (set tasks last (record task { edits = edits }))
-kept_by_edit counts tasks last task edits whole e room kept =
+kept_by_edit counts tasks last task edit edits whole e pushed within room kept =
     let below : last < length tasks = omega arith in
     let here : IsTask task = subst IsTask (sym e) (All-get_or IsTask tasks last task below kept.tasks.each) in
-    let there : IsTask (record task { edits = edits }) = record { lane = here.lane; box = here.box; edits = room } in
+    let each : All IsEdit edits = subst (All IsEdit) (sym pushed) (All-push IsEdit task.edits edit here.each within) in
+    let there : IsTask (record task { edits = edits }) = record { lane = here.lane; box = here.box; few = room; each = each } in
     record {
       counts = λ lane inside. kept.counts lane inside ∙ sym (lane_count-edit tasks last task edits lane below e);
       tasks = record {

@@ -7,7 +7,7 @@ use Rattle.std.proofs.lemmas.Bool.{eqb-true, eq-eqb, cases_eq}
 use Rattle.mesh_data.specs.declared.geometry.Point.{Point}
 use Rattle.mesh_data.specs.declared.edits.Task.{Task}
 use Rattle.edit_script.specs.Grammar.{lane_count, most_tasks}
-use Rattle.edit_script.specs.Ranges.{IsDraft, IsTask, IsBox, AreNumbered}
+use Rattle.edit_script.specs.Ranges.{IsDraft, IsTask, IsEdit, IsBox, AreNumbered}
 
 -- no task was read
 pub draft_of_none : (tasks : List Task) → tasks ≡ [] → IsDraft (replicate 64 0) tasks
@@ -72,7 +72,7 @@ pub kept_by_task :
     (tasks ++ record { lane = lane; number = number; low = low; high = high; edits = [] } ∷ [])
 kept_by_task counts tasks lane number low high size below box room n kept =
     let task : Task = record { lane = lane; number = number; low = low; high = high; edits = [] } in
-    let one : IsTask task = record { lane = below; box = box; edits = omega arith } in
+    let one : IsTask task = record { lane = below; box = box; few = omega arith; each = All-nil IsEdit } in
     record {
       counts = λ other h.
           let more : lane_count other (tasks ++ task ∷ []) ≡ lane_count other tasks + cond (lane == other) 1 0

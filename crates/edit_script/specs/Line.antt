@@ -3,7 +3,7 @@ use Rattle.std.specs.Prelude.{ℕ, ◌^◌, nat_lt, Bool, ◌&&◌, bytes_eq, co
 use Rattle.oemm_lines.specs.Numbers.{whole_of, integer_of}
 use Rattle.mesh_data.specs.Octree.{on_grid}
 use Rattle.mesh_data.specs.declared.geometry.Point.{Point}
-use Rattle.mesh_data.specs.declared.edits.Edit.TheVariants.{Move, Collapse, Flip}
+use Rattle.mesh_data.specs.declared.edits.Edit.TheVariants.{Move, Collapse, Flip, Simplify}
 use Rattle.mesh_data.specs.declared.items.ScriptWhy.{ScriptWhy}
 use Rattle.mesh_data.specs.declared.items.ScriptWhy.TheVariants.{Word, Words, Number, Lane, Box}
 use Rattle.edit_script.specs.declared.line.LineMeaning.{LineMeaning}
@@ -40,6 +40,12 @@ most_of word = do
   n ← whole_of word
   if nat_lt (2 ^ 126) n then None else Some (pos n)
 
+-- the number of triangles that a word writes
+unfoldable pub triangles_of : List ℕ → Option ℕ
+triangles_of word = do
+  n ← whole_of word
+  if nat_lt (2 ^ 24) n then None else Some n
+
 -- the low corner is at most the high one along each axis
 abbrev pub is_box : Point → Point → Bool
 is_box low high = int_le low.x high.x && int_le low.y high.y && int_le low.z high.z
@@ -69,6 +75,11 @@ abbrev pub flip_of : Option ℕ → Option ℕ → Result LineMeaning ScriptWhy
 flip_of (Some a) (Some b) = Ok (EditLine (Flip a b))
 flip_of _ _ = Err Number
 
+-- the simplification up to a bound, down to a number of triangles, where these are numbers
+abbrev pub simplify_of : Option ℤ → Option ℕ → Result LineMeaning ScriptWhy
+simplify_of (Some max) (Some target) = Ok (EditLine (Simplify max target))
+simplify_of _ _ = Err Number
+
 -- what the words behind `task` say
 unfoldable pub task_says : List (List ℕ) → Result LineMeaning ScriptWhy
 task_says (lane ∷ x ∷ y ∷ z ∷ x' ∷ y' ∷ z' ∷ []) = task_of (whole_of lane) (point_of x y z) (point_of x' y' z')
@@ -89,6 +100,11 @@ unfoldable pub flip_says : List (List ℕ) → Result LineMeaning ScriptWhy
 flip_says (a ∷ b ∷ []) = flip_of (name_of a) (name_of b)
 flip_says _ = Err Words
 
+-- what the words behind `simplify` say
+unfoldable pub simplify_says : List (List ℕ) → Result LineMeaning ScriptWhy
+simplify_says (max ∷ target ∷ []) = simplify_of (most_of max) (triangles_of target)
+simplify_says _ = Err Words
+
 -- what a line says, by its first word
 unfoldable pub line_says : List (List ℕ) → Result LineMeaning ScriptWhy
 line_says [] = Err Word
@@ -97,4 +113,5 @@ line_says (word ∷ words) =
     else if bytes_eq word (codes "move") then move_says words
     else if bytes_eq word (codes "collapse") then collapse_says words
     else if bytes_eq word (codes "flip") then flip_says words
+    else if bytes_eq word (codes "simplify") then simplify_says words
     else Err Word

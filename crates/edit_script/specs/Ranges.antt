@@ -1,6 +1,8 @@
 -- The ranges of what a script says.
-use Rattle.std.specs.Prelude.{◌≡◌, ℕ, ◌<◌, ◌≤◌, ◌≤ℤ◌, List, length, All, slice_index, slice_index_or, take, ⊤}
+use Rattle.std.specs.Prelude.{◌≡◌, ℕ, ◌^◌, ◌<◌, ◌≤◌, ℤ, pos, ◌≤ℤ◌, List, length, All, slice_index, slice_index_or, take, ⊤}
 use Rattle.mesh_data.specs.declared.geometry.Point.{Point}
+use Rattle.mesh_data.specs.declared.edits.Edit.{Edit}
+use Rattle.mesh_data.specs.declared.edits.Edit.TheVariants.{Move, Collapse, Flip, Simplify}
 use Rattle.mesh_data.specs.declared.edits.Task.{Task}
 use Rattle.edit_script.specs.declared.line.LineMeaning.{LineMeaning}
 use Rattle.edit_script.specs.declared.line.LineMeaning.TheVariants.{TaskLine, EditLine}
@@ -12,16 +14,29 @@ pub record IsBox (low high : Point) : Type 0 where
   pub y : low.y ≤ℤ high.y
   pub z : low.z ≤ℤ high.z
 
--- the lane and the box of a task's line are within their ranges
+-- a bound of a cost is from 0 to 2^126
+pub record IsCostBound (max : ℤ) : Type 0 where
+  pub least : pos 0 ≤ℤ max
+  pub greatest : max ≤ℤ pos (2 ^ 126)
+
+-- an edit's bound of a cost and its number of triangles are within their ranges
+abbrev pub IsEdit : Edit → Type 0
+IsEdit (Move v to) = ⊤
+IsEdit (Collapse u v max) = IsCostBound max
+IsEdit (Flip a b) = ⊤
+IsEdit (Simplify max target) = IsCostBound max × (target ≤ 2 ^ 24)
+
+-- the lane and the box of a task's line are within their ranges, and the numbers of an edit's line
 abbrev pub IsWithin : LineMeaning → Type 0
 IsWithin (TaskLine lane low high) = (lane < 64) × IsBox low high
-IsWithin (EditLine edit) = ⊤
+IsWithin (EditLine edit) = IsEdit edit
 
--- the task's lane, box and number of edits are within their ranges
+-- the task's lane, box and number of edits are within their ranges, and so is each edit
 pub record IsTask (task : Task) : Type 0 where
   pub lane : task.lane < 64
   pub box : IsBox task.low task.high
-  pub edits : length task.edits ≤ most_edits
+  pub few : length task.edits ≤ most_edits
+  pub each : All IsEdit task.edits
 
 -- each task's number is that of its lane's tasks before it
 abbrev pub AreNumbered : List Task → Type 0

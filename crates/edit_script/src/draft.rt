@@ -2,7 +2,7 @@ ghost use Rattle.std.specs.Prelude.{◌≡◌, ◌<◌, ℕ, List, OnOk, IfErr, 
 ghost use Rattle.oemm_lines.specs.Words.{words_of};
 ghost use Rattle.edit_script.specs.Line.{line_says};
 ghost use Rattle.edit_script.specs.Grammar.{with_task, with_edit, after_line};
-ghost use Rattle.edit_script.specs.Ranges.{IsBox, AreTasks, IsDraft};
+ghost use Rattle.edit_script.specs.Ranges.{IsBox, IsEdit, AreTasks, IsDraft};
 ghost use Rattle.edit_script.specs.Script.{StopsBy};
 
 use crate::fault::ScriptFault;
@@ -102,6 +102,7 @@ impl Draft {
 /// Puts an edit behind those of the last task, in the line with this number.
 #[tactic(auto, using(crate::proofs::Edits::with_edit_none, crate::proofs::Edits::with_edit_full, crate::proofs::Edits::with_edit_ok))]
 fn push_edit(tasks: &mut Vec<Task>, number: u32, edit: Edit) -> Result<(), ScriptFault>
+    requires { IsEdit edit }
     ensures ok { OnOk result (with_edit number tasks.old.items edit ≡ Ok tasks.new.items) }
     ensures err { IfErr result (λ fault. StopsBy fault (with_edit number tasks.old.items edit)) }
     ensures kept { (counts : List ℕ) → IsDraft counts tasks.old.items → IsDraft counts tasks.new.items }

@@ -2,9 +2,9 @@ ghost use Rattle.std.specs.Prelude.{◌≡◌, ◌<◌, [], ◌∷◌, length, I
 ghost use Rattle.oemm_lines.specs.Numbers.{whole_of};
 ghost use Rattle.oemm_lines.specs.Words.{words_of};
 ghost use Rattle.edit_script.specs.Ranges.{IsWithin};
-ghost use Rattle.edit_script.specs.Line.{point_of, name_of, most_of, task_within, task_of, move_of, collapse_of, flip_of, task_says, move_says, collapse_says, flip_says, line_says};
+ghost use Rattle.edit_script.specs.Line.{point_of, name_of, most_of, triangles_of, task_within, task_of, move_of, collapse_of, flip_of, simplify_of, task_says, move_says, collapse_says, flip_says, simplify_says, line_says};
 
-use crate::numbers::{is_box, most, name, point};
+use crate::numbers::{is_box, most, name, point, triangles};
 use mesh_data::{Edit, Point, ScriptWhy};
 use oemm_lines::{next_word, whole};
 
@@ -122,6 +122,18 @@ fn flip_of(a: &[u8], b: &[u8]) -> Result<LineMeaning, ScriptWhy>
     })
 }
 
+/// The simplification up to a bound's word, down to a word's number of triangles.
+fn simplify_of(max: &[u8], target: &[u8]) -> Result<LineMeaning, ScriptWhy>
+    ensures value { result ≡ simplify_of (most_of max.now) (triangles_of target.now) }
+    ensures within { IfOk result IsWithin }
+{
+    let max = most(max).ok_or(ScriptWhy::Number)?;
+    let target = triangles(target).ok_or(ScriptWhy::Number)?;
+    Ok(LineMeaning::EditLine {
+        edit: Edit::Simplify { max, target },
+    })
+}
+
 /// What the words behind `task` say.
 #[tactic(auto, using(crate::proofs::Counts::task_says_count), unfolding(crate::specs::Line::task_says))]
 fn task_meaning(text: &[u8]) -> Result<LineMeaning, ScriptWhy>
@@ -172,6 +184,18 @@ fn flip_meaning(text: &[u8]) -> Result<LineMeaning, ScriptWhy>
     flip_of(a, b)
 }
 
+/// What the words behind `simplify` say.
+#[tactic(auto, using(crate::proofs::Counts::simplify_says_count), unfolding(crate::specs::Line::simplify_says))]
+fn simplify_meaning(text: &[u8]) -> Result<LineMeaning, ScriptWhy>
+    ensures value { result ≡ simplify_says (words_of text.now) }
+    ensures within { IfOk result IsWithin }
+{
+    let (max, rest) = word(text)?;
+    let (target, rest) = word(rest)?;
+    no_word(rest)?;
+    simplify_of(max, target)
+}
+
 /// What a line says.
 #[tactic(auto, unfolding(crate::specs::Line::line_says))]
 pub fn line_meaning(text: &[u8]) -> Result<LineMeaning, ScriptWhy>
@@ -189,6 +213,8 @@ pub fn line_meaning(text: &[u8]) -> Result<LineMeaning, ScriptWhy>
         collapse_meaning(rest)
     } else if first == b"flip".as_slice() {
         flip_meaning(rest)
+    } else if first == b"simplify".as_slice() {
+        simplify_meaning(rest)
     } else {
         Err(ScriptWhy::Word)
     }

@@ -1,5 +1,6 @@
-ghost use Rattle.std.specs.Prelude.{◌≡◌};
-ghost use Rattle.edit_script.specs.Line.{coordinate_of, name_of, most_of, point_of, is_box};
+ghost use Rattle.std.specs.Prelude.{◌≡◌, ◌^◌, ◌≤◌, IfSome};
+ghost use Rattle.edit_script.specs.Line.{coordinate_of, name_of, most_of, triangles_of, point_of, is_box};
+ghost use Rattle.edit_script.specs.Ranges.{IsCostBound};
 
 use mesh_data::{Name, Point};
 use oemm_lines::{integer, whole};
@@ -45,10 +46,21 @@ pub fn name(word: &[u8]) -> Option<Name>
 /// The bound of a cost that a word writes.
 #[tactic(auto, unfolding(crate::specs::Line::most_of))]
 pub fn most(word: &[u8]) -> Option<i128>
-    ensures { result ≡ most_of word.now }
+    ensures value { result ≡ most_of word.now }
+    ensures within { IfSome result IsCostBound }
 {
     let n = whole(word)?;
     if n <= 1 << 126 { Some(n as i128) } else { None }
+}
+
+/// The number of triangles that a word writes.
+#[tactic(auto, unfolding(crate::specs::Line::triangles_of))]
+pub fn triangles(word: &[u8]) -> Option<u32>
+    ensures value { result ≡ triangles_of word.now }
+    ensures within { IfSome result (λ n. n ≤ 2 ^ 24) }
+{
+    let n = whole(word)?;
+    if n <= 1 << 24 { Some(n as u32) } else { None }
 }
 
 /// Whether the low corner is at most the high one along each axis.

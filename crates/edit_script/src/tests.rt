@@ -59,7 +59,7 @@ fn expect_fault(rt: &impl Abort, alloc: Global, text: &[u8], line: u32, why: Scr
 }
 
 const TASK_FAULTS: [(&str, u32, ScriptWhy); 16] = [
-    ("simplify 0 1", 1, ScriptWhy::Word),
+    ("thin 0 1", 1, ScriptWhy::Word),
     ("Task 0 0 0 0 0 0 0", 1, ScriptWhy::Word),
     ("# task", 1, ScriptWhy::Word),
     ("task", 1, ScriptWhy::Words),
@@ -81,7 +81,7 @@ const TASK_FAULTS: [(&str, u32, ScriptWhy); 16] = [
     ("task 0 0 0 5 0 0 4", 1, ScriptWhy::Box),
 ];
 
-const EDIT_FAULTS: [(&str, u32, ScriptWhy); 16] = [
+const EDIT_FAULTS: [(&str, u32, ScriptWhy); 19] = [
     ("move 0 1", 1, ScriptWhy::Words),
     ("move 0 1 2 x", 1, ScriptWhy::Number),
     ("\n \nmove 0 1 2 3\nx", 3, ScriptWhy::NoTask),
@@ -110,13 +110,16 @@ const EDIT_FAULTS: [(&str, u32, ScriptWhy); 16] = [
     ("flip 3 x", 1, ScriptWhy::Number),
     ("flip -3 4", 1, ScriptWhy::Number),
     ("flip 4294967296 0", 1, ScriptWhy::Number),
+    ("simplify 5", 1, ScriptWhy::Words),
+    ("simplify 5 6 7", 1, ScriptWhy::Words),
+    ("simplify 5 16777217", 1, ScriptWhy::Number),
 ];
 
 #[test]
 fn the_first_fault_is_found(rt: HostRuntime) {
-    for rows in [TASK_FAULTS, EDIT_FAULTS] {
+    for rows in [TASK_FAULTS.as_slice(), &EDIT_FAULTS] {
         for (text, line, why) in rows {
-            expect_fault(&rt, rt.alloc(), text.as_bytes(), line, why);
+            expect_fault(&rt, rt.alloc(), text.as_bytes(), *line, *why);
         }
     }
 }
@@ -135,6 +138,8 @@ const DEAREST: &str =
 
 const FLIP: &str = "task 0 0 0 0 0 0 0\nflip 3 4";
 
+const SIMPLIFY: &str = "task 0 0 0 0 0 0 0\nsimplify 5 16777216";
+
 fn collapse(u: u32, v: u32, max: i128) -> Edit {
     Edit::Collapse {
         u: Name(u),
@@ -149,11 +154,16 @@ fn edits_are_read(rt: HostRuntime) -> Result<(), Fail> {
         a: Name(3),
         b: Name(4),
     };
+    let simplify = Edit::Simplify {
+        max: 5,
+        target: 16777216,
+    };
     let dearest = collapse(4294967295, 1, 1 << 126);
     for (text, edit) in [
         (COLLAPSE, collapse(0, 1, 5)),
         (DEAREST, dearest),
         (FLIP, flip),
+        (SIMPLIFY, simplify),
     ] {
         assert_eq!(rt; one_edit(rt.alloc(), text)?, Some(edit), "{text}");
     }

@@ -1,21 +1,24 @@
 -- What an edit answers, and what it makes of the mesh. An area is the test of the points that lie in it.
-use Rattle.std.specs.Prelude.{ℕ, Bool, true, false, not, ◌&&◌, ◌==◌, min, max, ℤ, int_le, List, [], ◌∷◌, ◌++◌, map, filter, Option, Some, None, if◌then◌else◌}
+use Rattle.std.specs.Prelude.{ℕ, Bool, true, false, not, ◌&&◌, ◌==◌, min, max, ℤ, int_le, List, [], ◌∷◌, ◌++◌, map, filter, Option, Some, None, if◌then◌else◌, ◌≡◌, zero, suc, ◌<◌, ◌≤◌, ◌⊎◌, nat_le, flat_map, filter_map, count_by}
 use Rattle.std.specs.List.{list_all, find}
 use Rattle.std.specs.Option.{option_map_or, is_none}
 use Rattle.std.specs.FinMap as finite
+use Rattle.std.specs.Ordering.{nat_cmp, int_cmp, ordering_then, is_le}
+use Rattle.std.specs.declared.cmp.Ordering.{Ordering}
 use Rattle.mesh_data.specs.declared.geometry.Point.{Point}
 use Rattle.mesh_data.specs.declared.geometry.Tri.{Tri}
 use Rattle.mesh_data.specs.declared.planes.Plane.{Plane}
 use Rattle.mesh_data.specs.declared.edits.Edit.{Edit}
-use Rattle.mesh_data.specs.declared.edits.Edit.TheVariants.{Move, Collapse, Flip}
+use Rattle.mesh_data.specs.declared.edits.Edit.TheVariants.{Move, Collapse, Flip, Simplify}
+use Rattle.mesh_data.specs.declared.edits.Step.{Step}
 use Rattle.mesh_data.specs.declared.edits.Reply.{Reply}
-use Rattle.mesh_data.specs.declared.edits.Reply.TheVariants.{Unheld, Frozen, Same, Apart, Border, Link, Closed, Folds, Dear, Edge, Outside, Done, DoneAt}
+use Rattle.mesh_data.specs.declared.edits.Reply.TheVariants.{Unheld, Frozen, Same, Apart, Border, Link, Closed, Folds, Dear, Edge, Outside, Done, DoneAt, Simplified}
 use Rattle.mesh_data.specs.Ascending.{in_order}
 use Rattle.mesh_data.specs.Links.{has_both, are_neighbours, opposites, least_shared, is_closed_by_three}
-use Rattle.mesh_data.specs.Mesh.{Mesh, origin, point_of, planes_of, with_vertex}
+use Rattle.mesh_data.specs.Mesh.{Mesh, origin, point_of, planes_of, names_of, with_vertex}
 use Rattle.mesh_data.specs.Planes.{plane_of, folds, squares}
 use Rattle.mesh_data.specs.Rings.{has_closed_ring}
-use Rattle.mesh_data.specs.Triangles.{has_corner, neighbours, tri_cmp, turned}
+use Rattle.mesh_data.specs.Triangles.{corners, has_corner, neighbours, tri_cmp, turned}
 
 -- the reply of the first line whose test holds, else the last one
 abbrev pub first_line : List (Bool × Reply) → Reply → Reply
@@ -130,24 +133,96 @@ abbrev pub flipped : Mesh → ℕ → ℕ → Mesh
 flipped m a b =
     option_map_or (λ ends. record { vertices = m.vertices; tris = flipped_tris a b ends.0 ends.1 m.tris }) (opposites m.tris a b) m
 
+-- the collapse of u onto v with its cost, if its verdict is done
+abbrev pub done_step : ℕ → ℕ → Reply → Option Step
+done_step u v (DoneAt cost_of) = Some (record { u = u; v = v; cost = cost_of })
+done_step u v _ = None
+
+-- the collapses that are done now, among all pairs of names
+abbrev pub done_steps : (Point → Bool) → Mesh → ℤ → List Step
+done_steps inside m most =
+    flat_map (λ u. filter_map (λ v. done_step u v (collapse_verdict inside m u v most)) (names_of m)) (names_of m)
+
+-- steps by their costs, then by their first, then by their second name
+abbrev pub step_cmp : Step → Step → Ordering
+step_cmp s t = ordering_then (int_cmp s.cost t.cost) (ordering_then (nat_cmp s.u t.u) (nat_cmp s.v t.v))
+
+-- the least of these steps, if there are any
+abbrev pub least_step : List Step → Option Step
+least_step [] = None
+least_step (s ∷ ss) = Some (option_map_or (λ t. if is_le (step_cmp s t) then s else t) (least_step ss) s)
+
+-- how many triangles have all three vertices held
+abbrev pub whole_count : (Point → Bool) → Mesh → ℕ
+whole_count inside m = count_by (λ t. list_all (is_held inside m) (corners t)) m.tris
+
+-- a mesh, and the steps that led to it
+pub record Thinned : Type 0 where
+  pub mesh : Mesh
+  pub steps : List Step
+
+-- So many steps at most, each the least collapse that is done at its moment, as long as more triangles than the target
+-- have all three vertices held, and as long as a collapse is done.
+unfoldable pub thinned : ℕ → (Point → Bool) → Mesh → ℤ → ℕ → Thinned
+thinned zero inside m most target = record { mesh = m; steps = [] }
+thinned (suc n) inside m most target =
+    if nat_le (whole_count inside m) target then record { mesh = m; steps = [] }
+    else option_map_or (λ s.
+    let rest = thinned n inside (collapsed m s.u s.v) most target in
+    record { mesh = rest.mesh; steps = s ∷ rest.steps }) (least_step (done_steps inside m most)) (record { mesh = m; steps = [] })
+
+-- what a simplification makes of the mesh: each step takes a vertex away, so there are no more steps than vertices
+abbrev pub simplified : (Point → Bool) → Mesh → ℤ → ℕ → Thinned
+simplified inside m most target = thinned (finite.len m.vertices) inside m most target
+
+-- what a simplification answers
+abbrev pub simplify_verdict : (Point → Bool) → Mesh → ℤ → ℕ → Reply
+simplify_verdict inside m most target =
+    let done = simplified inside m most target in Simplified done.steps (whole_count inside done.mesh)
+
 -- what an edit answers
 abbrev pub verdict : (Point → Bool) → Mesh → Edit → Reply
 verdict inside m (Move v to) = move_verdict inside m v to
 verdict inside m (Collapse u v most) = collapse_verdict inside m u v most
 verdict inside m (Flip a b) = flip_verdict inside m a b
+verdict inside m (Simplify most target) = simplify_verdict inside m most target
 
 -- the edit was made
 abbrev pub is_done : Reply → Bool
 is_done Done = true
 is_done (DoneAt cost_of) = true
+is_done (Simplified steps left) = true
 is_done _ = false
 
+-- the mesh with these collapses made, one after another
+abbrev pub collapsed_by : Mesh → List Step → Mesh
+collapsed_by m [] = m
+collapsed_by m (s ∷ ss) = collapsed_by (collapsed m s.u s.v) ss
+
+-- the collapses of a simplification
+abbrev pub steps_of : Reply → List Step
+steps_of (Simplified steps left) = steps
+steps_of _ = []
+
 -- what an edit that is done makes of the mesh
-abbrev pub done : Mesh → Edit → Mesh
-done m (Move v to) = moved m v to
-done m (Collapse u v most) = collapsed m u v
-done m (Flip a b) = flipped m a b
+abbrev pub done : Mesh → Edit → Reply → Mesh
+done m (Move v to) reply = moved m v to
+done m (Collapse u v most) reply = collapsed m u v
+done m (Flip a b) reply = flipped m a b
+done m (Simplify most target) reply = collapsed_by m (steps_of reply)
 
 -- the mesh that an edit leaves, by its answer
 abbrev pub after : Mesh → Edit → Reply → Mesh
-after m e reply = if is_done reply then done m e else m
+after m e reply = if is_done reply then done m e reply else m
+
+-- Each step is a collapse that is done at its moment, and none that is done then is less. A step is made only above the
+-- target, and the steps end only where the target is reached or no collapse is done.
+abbrev pub AreLeastSteps : (Point → Bool) → Mesh → ℤ → ℕ → List Step → Type 0
+AreLeastSteps inside m most target [] =
+    (whole_count inside m ≤ target) ⊎ ((u v : ℕ) (cost_of : ℤ) → collapse_verdict inside m u v most ≡ DoneAt cost_of → ⊥)
+AreLeastSteps inside m most target (s ∷ ss) =
+    (target < whole_count inside m)
+    × (collapse_verdict inside m s.u s.v most ≡ DoneAt s.cost)
+    × ((u v : ℕ) (cost_of : ℤ) → collapse_verdict inside m u v most ≡ DoneAt cost_of
+    → is_le (step_cmp s (record { u = u; v = v; cost = cost_of })) ≡ true)
+    × AreLeastSteps inside (collapsed m s.u s.v) most target ss

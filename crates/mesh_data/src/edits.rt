@@ -13,13 +13,27 @@ pub enum Edit {
     Collapse { u: Name, v: Name, max: i128 },
     /// Turns the edge of `a` and `b`, between its two triangles, to their other two vertices.
     Flip { a: Name, b: Name },
+    /// Makes the cheapest collapse that can be made, of at most this cost, as long as more than `target` triangles have
+    /// all three vertices held.
+    Simplify { max: i128, target: u32 },
 }
 
 /// The edits of a task, in their order.
 pub type Edits = List<Edit>;
 
-/// What an edit answered.
+/// A collapse that a simplification made.
 #[derive(Clone, Copy, Debug, PartialEq, Eq)]
+pub struct Step {
+    pub u: Name,
+    pub v: Name,
+    pub cost: i128,
+}
+
+/// The collapses of a simplification, in their order.
+pub type Steps = List<Step>;
+
+/// What an edit answered.
+#[derive(Debug, Drop, PartialEq, Eq)]
 pub enum Reply {
     /// This vertex isn't in the mesh, or its home lies outside the core.
     Unheld(Name),
@@ -48,6 +62,8 @@ pub enum Reply {
     Done,
     /// The collapse was made, at this cost.
     DoneAt(i128),
+    /// These collapses were made, and so many triangles are left with all three vertices held.
+    Simplified { steps: Steps, left: u32 },
 }
 
 /// The replies to the edits of a task, in their order.
@@ -93,9 +109,33 @@ impl Copied for Edit {
     }
 }
 
+impl Copied for Step {
+    fn copy(&self, alloc: Global) -> Result<Step, AllocError> {
+        Ok(*self)
+    }
+}
+
 impl Copied for Reply {
     fn copy(&self, alloc: Global) -> Result<Reply, AllocError> {
-        Ok(*self)
+        Ok(match self {
+            Reply::Unheld(v) => Reply::Unheld(*v),
+            Reply::Frozen(v) => Reply::Frozen(*v),
+            Reply::Same => Reply::Same,
+            Reply::Apart => Reply::Apart,
+            Reply::Border => Reply::Border,
+            Reply::Link(w) => Reply::Link(*w),
+            Reply::Closed => Reply::Closed,
+            Reply::Folds(t) => Reply::Folds(*t),
+            Reply::Dear(cost) => Reply::Dear(*cost),
+            Reply::Edge(c, d) => Reply::Edge(*c, *d),
+            Reply::Outside => Reply::Outside,
+            Reply::Done => Reply::Done,
+            Reply::DoneAt(cost) => Reply::DoneAt(*cost),
+            Reply::Simplified { steps, left } => Reply::Simplified {
+                steps: steps.copy(alloc)?,
+                left: *left,
+            },
+        })
     }
 }
 

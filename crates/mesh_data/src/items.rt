@@ -27,15 +27,40 @@ pub enum What {
     Edits,
 }
 
+/// An element of a PLY file that a mesh can't do without.
+#[derive(Clone, Copy, Debug, PartialEq, Eq)]
+pub enum ElementKind {
+    Vertex,
+    Face,
+}
+
 /// What is wrong with a mesh's text. Vertices and faces are numbered from 0.
 #[derive(Clone, Copy, Debug, PartialEq, Eq)]
 pub enum MeshWhy {
-    /// The first word isn't `OFF`.
+    /// The first line isn't `ply`, or the first word of another file isn't `OFF`.
     Head,
+    /// The format of a PLY file is `ascii`.
+    Ascii,
+    /// A line of a PLY header has none of its forms, or stands where it can't.
+    HeadLine,
+    /// The faces of a PLY file are declared before its vertices.
+    FaceFirst,
+    /// The vertices, the faces, or a property of them that is read are declared a second time.
+    Twice,
+    /// A coordinate is declared as a floating-point number.
+    FloatCoordinate,
+    /// A coordinate is declared as a list, or the indices as no list of whole numbers.
+    Kind,
+    /// A PLY header ends without this element.
+    NoElement { which: ElementKind },
+    /// A PLY header ends without a property that is read: 0, 1 and 2 are the coordinates, and 3 the list of indices.
+    NoProperty { which: u8 },
     /// A line has too few words.
     Words,
     /// A word that must be a number isn't one, or a count is above 2^64 - 1.
     Number,
+    /// A list of a PLY file has a negative count.
+    ListCount,
     /// A coordinate isn't a whole number.
     NotInteger { vertex: u32 },
     /// A coordinate lies outside the grid.

@@ -14,9 +14,9 @@ mod sets;
 mod shapes;
 mod words;
 
-pub use edits::{Edit, Edits, Entries, Entry, Replies, Reply, Script, Task, Tasks};
+pub use edits::{Edit, Edits, Entries, Entry, Replies, Reply, Script, Step, Steps, Task, Tasks};
 pub use geometry::{Cell, Cells, Edge, Edges, Point, Points, Soup, Tri, Tris, Vertex};
-pub use items::{Item, Items, MeshFault, MeshWhy, ScriptWhy, What};
+pub use items::{ElementKind, Item, Items, MeshFault, MeshWhy, ScriptWhy, What};
 pub use list::{Bytes, Copied, List};
 pub use names::{Lane, LeafNo, Name};
 pub use planes::{Plane, Planes};

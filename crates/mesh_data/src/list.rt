@@ -90,6 +90,24 @@ impl<T> List<T> {
     }
 }
 
+impl<T: PartialEq> PartialEq for List<T> {
+    ghost use Rattle.std.specs.Cmp.Lexicographic.{pointwise, lists_per};
+
+    ghost eq = { pointwise T.eq };
+
+    ghost laws = { lists_per T.laws };
+
+    fn eq(&self, other: &List<T>) -> bool {
+        self.items == other.items
+    }
+}
+
+impl<T: Eq> Eq for List<T> {
+    ghost use Rattle.std.specs.Cmp.Lexicographic.{lists_equiv};
+
+    ghost laws = { lists_equiv T.Eq.laws };
+}
+
 impl<T: Copied + Drop> Copied for List<T> {
     fn copy(&self, alloc: Global) -> Result<List<T>, AllocError> {
         let mut items = Vec::with_capacity(alloc, self.items.len())?;

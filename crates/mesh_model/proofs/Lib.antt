@@ -3,6 +3,9 @@ pub mod Stars
 pub mod Totals
 pub mod Copies
 pub mod Lines
+pub mod Steps
+pub mod Tried
+pub mod Thinned
 pub mod Stocks
 pub mod PlaneLists
 pub mod Starts

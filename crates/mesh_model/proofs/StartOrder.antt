@@ -1,14 +1,12 @@
 -- The start mesh doesn't depend on the order of the faces.
-use Rattle.std.proofs.Common.{◌≡◌, ℕ, List, map, ap, ◌∙◌}
+use Rattle.std.proofs.Common.{◌≡◌, List, map, ap}
 use Rattle.std.proofs.lemmas.List.Sorted.{IsPermutation-map}
 use Rattle.std.specs.FinMap as finite
-use Rattle.std.specs.Ordering.{nat_cmp}
 use Rattle.std.specs.List.Sorted.{IsPermutation}
 use Rattle.mesh_data.specs.declared.geometry.Point.{Point}
 use Rattle.mesh_data.specs.declared.geometry.Tri.{Tri}
-use Rattle.mesh_data.specs.Ascending.{in_order}
 use Rattle.mesh_data.specs.Mesh.{Mesh, start, named_from, planes_at}
-use Rattle.mesh_data.specs.Triangles.{turned, tri_cmp}
+use Rattle.mesh_data.specs.Triangles.{turned}
 use Rattle.triangle_lists.proofs.Orders.{tri_cmp_total, tri_cmp-IsAntisymmetric}
 use Rattle.triangle_lists.proofs.Sorting.{in_order-IsPermutation}
 

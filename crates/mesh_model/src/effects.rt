@@ -27,6 +27,7 @@ impl PlainMesh {
             Edit::Move { v, to } => Ok(self.do_move(area, *v, *to)),
             Edit::Collapse { u, v, max } => self.do_collapse(alloc, area, *u, *v, *max),
             Edit::Flip { a, b } => self.do_flip(alloc, area, *a, *b),
+            Edit::Simplify { max, target } => self.do_simplify(alloc, area, *max, *target),
         }
     }
 
@@ -143,7 +144,7 @@ impl PlainMesh {
     }
 
     /// Puts `v` for `u`. For want of memory the mesh is unchanged.
-    fn collapse(&mut self, alloc: Global, u: Name, v: Name) -> Result<(), AllocError>
+    pub(crate) fn collapse(&mut self, alloc: Global, u: Name, v: Name) -> Result<(), AllocError>
         requires apart { u ≢ v }
         requires there { finite.contains_key self.old.vertices v ≡ true }
         ensures ok { OnOk result (self.new ≡ collapsed self.old u v) }

@@ -1,9 +1,10 @@
-ghost use Rattle.std.specs.Prelude.{◌≡◌, ◌*◌, List, length, pos, ◌-ℤ◌, ◌+ℤ◌, IsPermutation};
+ghost use Rattle.std.specs.Prelude.{◌≡◌, ◌*◌, ℕ, ℤ, Bool, List, length, pos, ◌-ℤ◌, ◌+ℤ◌, IsPermutation};
 ghost use Rattle.std.specs.FinMap as finite;
 ghost use Rattle.mesh_data.specs.declared.geometry.Point.{Point};
 ghost use Rattle.mesh_data.specs.declared.geometry.Tri.{Tri};
 ghost use Rattle.mesh_data.specs.declared.shapes.Shape.{Shape};
 ghost use Rattle.mesh_data.specs.declared.shapes.Audit.TheVariants.{Bad};
+ghost use Rattle.mesh_data.specs.Edits.{AreLeastSteps, collapsed_by, simplified};
 ghost use Rattle.mesh_data.specs.Manifold.{IsManifold, Audits};
 ghost use Rattle.mesh_data.specs.Mesh.{Mesh, start, euler, euler2, border};
 
@@ -28,4 +29,15 @@ pub fn euler_laws()
     ensures manifold { (m : Mesh) → IsManifold m
         → euler2 m ≡ (pos (2 * finite.len m.vertices) -ℤ pos (length m.tris)) -ℤ pos (length (border m)) }
     ensures twice { (m : Mesh) → euler2 m ≡ euler m +ℤ euler m }
+{}
+
+/// What a simplification does: each of its steps is a collapse that is done at its moment, none that is done then is less
+/// by cost and names, and the steps end only where the target is reached or no collapse is done. The steps, one after
+/// another, make its mesh.
+#[tactic(auto, using(crate::proofs::Thinned::least_of_all, crate::proofs::Thinned::made_of_all))]
+pub fn simplify_laws()
+    ensures least { (inside : Point → Bool) (m : Mesh) (most : ℤ) (target : ℕ)
+        → AreLeastSteps inside m most target (simplified inside m most target).steps }
+    ensures made { (inside : Point → Bool) (m : Mesh) (most : ℤ) (target : ℕ)
+        → collapsed_by m (simplified inside m most target).steps ≡ (simplified inside m most target).mesh }
 {}

@@ -7,16 +7,17 @@ mod effects;
 mod laws;
 mod plain_mesh;
 mod plane_lists;
+mod simplify;
 mod verdicts;
 mod vertex_map;
 
 pub use areas::{Area, core_leaves};
-pub use laws::{audit_laws, euler_laws, start_laws};
+pub use laws::{audit_laws, euler_laws, simplify_laws, start_laws};
 pub use mesh_data::{
     Audit, Bytes, Cell, Cells, CommandWord, CommandWords, Copied, Edge, Edges, Edit, Edits,
-    Entries, Entry, Item, Items, Lane, LeafNo, LeafSet, List, MeshFault, MeshWhy, Name, NameSet,
-    Names, Plane, Planes, Point, Points, Quad, Replies, Reply, Ring, Script, ScriptWhy, Shape,
-    Soup, Task, Tasks, Tri, Tris, Vertex, What,
+    ElementKind, Entries, Entry, Item, Items, Lane, LeafNo, LeafSet, List, MeshFault, MeshWhy,
+    Name, NameSet, Names, Plane, Planes, Point, Points, Quad, Replies, Reply, Ring, Script,
+    ScriptWhy, Shape, Soup, Step, Steps, Task, Tasks, Tri, Tris, Vertex, What,
 };
 pub use plain_mesh::PlainMesh;
 pub use triangle_lists::turned_tri;

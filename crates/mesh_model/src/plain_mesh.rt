@@ -75,15 +75,19 @@ impl PlainMesh {
     }
 
     /// The names of the vertices, ascending.
+    #[tactic(auto, using(crate::proofs::Vertices::few_names))]
     pub fn names(&self, alloc: Global) -> Result<NameSet, AllocError>
-        ensures { IfOk result (λ names. names ≡ names_of self.now) }
+        ensures names { IfOk result (λ names. names ≡ names_of self.now) }
+        ensures few { IfOk result (λ names. length names ≤ 16777216) }
     {
         self.vertices.names(alloc)
     }
 
     /// The points of the vertices, in the order of the names.
+    #[tactic(auto, using(crate::proofs::Vertices::few_points))]
     pub fn points(&self, alloc: Global) -> Result<Points, AllocError>
-        ensures { IfOk result (λ points. points ≡ points_of self.now) }
+        ensures points { IfOk result (λ points. points ≡ points_of self.now) }
+        ensures few { IfOk result (λ points. length points ≤ 16777216) }
     {
         self.vertices.points(alloc)
     }
@@ -104,7 +108,8 @@ impl PlainMesh {
 
     /// The triangles, each turned so that its least name comes first, in order.
     pub fn tris(&self, alloc: Global) -> Result<Tris, AllocError>
-        ensures { IfOk result (λ tris. tris ≡ self.now.tris) }
+        ensures tris { IfOk result (λ tris. tris ≡ self.now.tris) }
+        ensures few { IfOk result (λ tris. length tris ≤ 16777216) }
     {
         let tris = Vec::from_slice(alloc, self.tris.as_slice())?;
         Ok(List::from_vec(tris))

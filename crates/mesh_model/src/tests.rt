@@ -415,3 +415,59 @@ fn a_fan_folds_or_not(rt: HostRuntime) -> Result<(), Fail> {
     assert!(rt; is_good(rt.alloc(), &mesh, [4, 2, 4], 1)?);
     Ok(())
 }
+
+fn simplify(max: i128, target: u32) -> Edit {
+    Edit::Simplify { max, target }
+}
+
+/// The replies' steps and what is left, where it is that of a simplification.
+fn told(reply: &Reply) -> Option<(&[Step], u32)> {
+    match reply {
+        Reply::Simplified { steps, left } => Some((steps.slice(), *left)),
+        _ => None,
+    }
+}
+
+fn step(u: u32, v: u32, cost: i128) -> Step {
+    Step {
+        u: Name(u),
+        v: Name(v),
+        cost,
+    }
+}
+
+#[test]
+fn an_octahedron_is_simplified(rt: HostRuntime) -> Result<(), Fail> {
+    let mut mesh = mesh_of(rt.alloc(), &OCTAHEDRON, &OCTAHEDRON_FACES)?;
+    let none = answer(rt.alloc(), &mut mesh, &simplify(32767, 6))?;
+    assert_eq!(rt;
+        told(&none).map(|(steps, left)| (steps.len(), left)),
+        Some((0, 8))
+    );
+    let reply = answer(rt.alloc(), &mut mesh, &simplify(40000, 6))?;
+    assert_eq!(rt; told(&reply), Some(([step(0, 2, 32768)].as_slice(), 6)));
+    assert!(rt; is_good(rt.alloc(), &mesh, [5, 6, 0], 2)?);
+    Ok(())
+}
+
+/// A double pyramid that has two cheaper pairs of vertices with three common neighbours.
+const LEANING_PYRAMID: [[i16; 3]; 5] = [[-2, -2, 0], [-2, 3, 0], [-2, 0, 0], [0, 1, 0], [3, 1, 1]];
+
+#[test]
+fn a_pair_with_a_third_common_neighbour_is_passed_over(rt: HostRuntime) -> Result<(), Fail> {
+    let mut mesh = mesh_of(rt.alloc(), &LEANING_PYRAMID, &DOUBLE_PYRAMID_FACES)?;
+    let link = answer(rt.alloc(), &mut mesh, &collapse(0, 1, 0))?;
+    assert_eq!(rt; link, Reply::Link(Name(2)));
+    let reply = answer(rt.alloc(), &mut mesh, &simplify(1000, 0))?;
+    assert_eq!(rt; told(&reply), Some(([step(2, 3, 52)].as_slice(), 4)));
+    Ok(())
+}
+
+#[test]
+fn a_fan_is_simplified_inside_its_border(rt: HostRuntime) -> Result<(), Fail> {
+    let mut mesh = mesh_of(rt.alloc(), &FAN, &FAN_FACES)?;
+    let reply = answer(rt.alloc(), &mut mesh, &simplify(0, 0))?;
+    assert_eq!(rt; told(&reply), Some(([step(0, 2, 0)].as_slice(), 2)));
+    assert!(rt; is_good(rt.alloc(), &mesh, [4, 2, 4], 1)?);
+    Ok(())
+}

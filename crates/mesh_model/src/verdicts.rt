@@ -20,7 +20,7 @@ use triangle_lists::has_closed_ring;
 
 impl PlainMesh {
     /// Whether the mesh has the vertex, in the area.
-    fn is_held(&self, area: &Area, v: Name) -> bool
+    pub(crate) fn is_held(&self, area: &Area, v: Name) -> bool
         ensures { result ≡ is_held (is_inside area.now) self.now v }
     {
         match self.vertices.point(v) {

@@ -28,8 +28,17 @@ status_of Memory = 9
 -- the variant's name, and its number where it has one
 abbrev pub mesh_why_text : MeshWhy → List ℕ
 mesh_why_text mesh_why.Head = codes "Head"
+mesh_why_text mesh_why.Ascii = codes "Ascii"
+mesh_why_text mesh_why.HeadLine = codes "HeadLine"
+mesh_why_text mesh_why.FaceFirst = codes "FaceFirst"
+mesh_why_text mesh_why.Twice = codes "Twice"
+mesh_why_text mesh_why.FloatCoordinate = codes "FloatCoordinate"
+mesh_why_text mesh_why.Kind = codes "Kind"
+mesh_why_text (mesh_why.NoElement which) = codes "NoElement"
+mesh_why_text (mesh_why.NoProperty which) = codes "NoProperty " ++ decimal which
 mesh_why_text mesh_why.Words = codes "Words"
 mesh_why_text mesh_why.Number = codes "Number"
+mesh_why_text mesh_why.ListCount = codes "ListCount"
 mesh_why_text (mesh_why.NotInteger v) = codes "NotInteger " ++ decimal v
 mesh_why_text (mesh_why.OutOfRange v) = codes "OutOfRange " ++ decimal v
 mesh_why_text (mesh_why.NotTriangle f) = codes "NotTriangle " ++ decimal f

@@ -82,8 +82,17 @@ fn put_mesh_why(text: &mut String, why: &MeshWhy) -> Result<(), AllocError>
 {
     match why {
         MeshWhy::Head => text.push_str("Head"),
+        MeshWhy::Ascii => text.push_str("Ascii"),
+        MeshWhy::HeadLine => text.push_str("HeadLine"),
+        MeshWhy::FaceFirst => text.push_str("FaceFirst"),
+        MeshWhy::Twice => text.push_str("Twice"),
+        MeshWhy::FloatCoordinate => text.push_str("FloatCoordinate"),
+        MeshWhy::Kind => text.push_str("Kind"),
+        MeshWhy::NoElement { .. } => text.push_str("NoElement"),
+        MeshWhy::NoProperty { which } => write!(text, "NoProperty {which}"),
         MeshWhy::Words => text.push_str("Words"),
         MeshWhy::Number => text.push_str("Number"),
+        MeshWhy::ListCount => text.push_str("ListCount"),
         MeshWhy::NotInteger { vertex } => write!(text, "NotInteger {vertex}"),
         MeshWhy::OutOfRange { vertex } => write!(text, "OutOfRange {vertex}"),
         MeshWhy::NotTriangle { face } => write!(text, "NotTriangle {face}"),

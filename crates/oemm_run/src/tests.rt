@@ -121,6 +121,18 @@ fn the_octahedrons_cheapest_collapse(rt: HostRuntime) -> Result<(), Fail> {
     Ok(())
 }
 
+#[test]
+fn the_octahedron_thinned_to_six_faces(rt: HostRuntime) -> Result<(), Fail> {
+    let script =
+        "task 0 -32768 -32768 -32768 32767 32767 32767\nsimplify 32767 6\nsimplify 40000 6\n";
+    let done = run_on(rt.alloc(), &RUN, OCTAHEDRON.as_bytes(), script, 99, NONE)?;
+    assert_eq!(rt; done.end, End::Done);
+    let report =
+        "commit 0 lane 0 number 0 box -32768 -32768 -32768 32767 32767 32767\nsimplify 32767 6\n  simplified 8\nsimplify 40000 6\n  collapse 0 2 32768\n  simplified 6\nvertices 5 faces 6 euler 2 border 0\n";
+    assert_eq!(rt; done.report.as_slice(), report.as_bytes());
+    Ok(())
+}
+
 const SQUARE: &str =
     "OFF\n4 2 0\n-32767 -32767 -16\n32767 -32767 2\n-32767 32767 6\n32767 32767 -9\n3 0 1 2\n3 1 3 2\n";
 

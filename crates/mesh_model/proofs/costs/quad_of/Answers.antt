@@ -1,4 +1,4 @@
-use Rattle.std.proofs.Common.{◌≡◌, ◌∙◌, List, length, take, get_or, take-suc, length-take-le, pos, ap, sym, arith, add-one}
+use Rattle.std.proofs.Common.{◌≡◌, ◌∙◌, length, take, get_or, take-suc, length-take-le, pos, ap, sym, arith, add-one}
 use Rattle.mesh_data.specs.declared.planes.Plane.{Plane}
 use Rattle.mesh_data.specs.Planes.{Sums, products, added, sums_of}
 use Rattle.oemm_plane.proofs.Sums.{planes-sums_of, sums_of-push}

@@ -1,4 +1,4 @@
-use Rattle.std.proofs.Common.{◌≡◌, ◌∙◌, ap, sym, subst, length, [], get_or, arith, length-set}
+use Rattle.std.proofs.Common.{◌≡◌, ◌∙◌, ap, sym, subst, length, [], get_or, length-set}
 use Rattle.mesh_data.specs.Mesh.{plane_at}
 use Rattle.mesh_data.specs.Triangles.{IsProper, IsBelow}
 use Rattle.std.proofs.lemmas.List.Elements.{All-get_or}

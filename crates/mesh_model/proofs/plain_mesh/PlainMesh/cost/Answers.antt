@@ -1,5 +1,4 @@
-use Rattle.std.proofs.Common.{◌≡◌, ◌∙◌, ◌++◌, List, length, ap, sym, arith, rules}
-use Rattle.mesh_data.specs.declared.planes.Plane.{Plane}
+use Rattle.std.proofs.Common.{◌≡◌, ◌∙◌, ◌++◌, length, ap, sym, arith, rules}
 use Rattle.mesh_data.specs.Edits.{cost}
 use Rattle.mesh_data.specs.Planes.{Sums, added, sums_of, squares}
 use Rattle.mesh_data.specs.Quads.{sums_in}
