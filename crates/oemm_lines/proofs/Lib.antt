@@ -1,3 +1,9 @@
-pub mod WordLaws
 pub mod LineLaws
+pub mod WordLaws
 pub mod NumberLaws
+pub mod AheadLaws
+pub mod PlaceLaws
+pub mod FlowLaws
+pub mod EndLaws
+pub mod StreamLaws
+pub mod WordPlaces

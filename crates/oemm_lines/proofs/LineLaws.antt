@@ -86,7 +86,7 @@ without_return-kept (x ∷ []) c other = ap (λ t. x ∷ t) (without_return-kept
 without_return-kept (x ∷ y ∷ ys) c other = ap (λ t. x ∷ t) (without_return-kept (y ∷ ys) c other)
 
 -- bytes of which none at an index is a line feed
-no_feed : (body : List ℕ) → ((k : ℕ) → k < length body → get_or body k 0 ≢ 10) → AllByRecursion (λ c. c ≢ 10) body
+pub no_feed : (body : List ℕ) → ((k : ℕ) → k < length body → get_or body k 0 ≢ 10) → AllByRecursion (λ c. c ≢ 10) body
 no_feed body other = recursion_from_All (λ c. c ≢ 10) body (All-from_get_or (λ c. c ≢ 10) body 0 other)
 
 -- the first line of bytes of which the first line feed is at n

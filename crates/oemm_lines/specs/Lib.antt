@@ -1,3 +1,5 @@
 pub mod Words
 pub mod Lines
 pub mod Numbers
+pub mod Stream
+pub mod Ends

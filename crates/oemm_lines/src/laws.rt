@@ -1,8 +1,11 @@
-ghost use Rattle.std.specs.Prelude.{◌≡◌, ◌≢◌, ℕ, ◌+◌, ◌^◌, ◌<◌, List, [], ◌∷◌, ◌++◌, length, true, false, Some, ℤ, nat_abs, All};
+ghost use Rattle.std.specs.Prelude.{◌≡◌, ◌≢◌, ℕ, ◌+◌, ◌^◌, ◌<◌, ◌≤◌, Bool, map, List, [], ◌∷◌, ◌++◌, length, true, false, Some, ℤ, nat_abs, All};
 ghost use Rattle.std.specs.Fmt.{decimal, signed_decimal};
 ghost use Rattle.oemm_lines.specs.Words.{is_blank, words_of};
 ghost use Rattle.oemm_lines.specs.Lines.{raw_lines, lines_from, filled_from, without_return};
 ghost use Rattle.oemm_lines.specs.Numbers.{whole_of, integer_of};
+ghost use Rattle.oemm_lines.specs.Stream.{longest, uncommented, words_in, word_in, IsWordIn, line_of, behind, fault_alone, nothing_more, told_lines};
+
+use super::parts::LineFault;
 
 /// How a text falls into lines, by the bytes in front of its first line feed.
 pub fn line_laws()
@@ -47,4 +50,33 @@ pub fn word_laws()
 pub fn number_laws()
     ensures whole { (n : ℕ) → n < 10 ^ 64 → whole_of (decimal n) ≡ Some n }
     ensures integer { (z : ℤ) → nat_abs z < 10 ^ 64 → integer_of (signed_decimal z) ≡ Some z }
+{}
+
+/// The bytes at the places of a line's words are its words, and each lies in the line.
+pub fn word_place_laws()
+    ensures texts { (comments : Bool) (bytes : List ℕ) →
+        map (word_in bytes) (words_in comments bytes) ≡ words_of (uncommented comments bytes) }
+    ensures within { (comments : Bool) (bytes : List ℕ) → All (IsWordIn bytes) (words_in comments bytes) }
+{}
+
+/// What a source says, by the bytes in front of its first line feed.
+pub fn told_line_laws()
+    ensures none { (comments : Bool) (budget at number : ℕ) → told_lines comments budget at number [] ≡ nothing_more }
+    ensures ended { (comments : Bool) (budget at number : ℕ) (body rest : List ℕ) → All (λ c. c ≢ 10) body →
+        length body ≤ longest → at + (length body + 1) ≤ budget →
+        told_lines comments budget at number (body ++ 10 ∷ rest)
+        ≡ behind (line_of comments at number (without_return body))
+        (told_lines comments budget (at + (length body + 1)) (number + 1) rest) }
+    ensures last { (comments : Bool) (budget at number : ℕ) (body : List ℕ) → body ≢ [] → All (λ c. c ≢ 10) body →
+        length body ≤ longest → at + length body ≤ budget →
+        told_lines comments budget at number body ≡ behind (line_of comments at number body) nothing_more }
+    ensures too_long { (comments : Bool) (budget at number : ℕ) (front rest : List ℕ) → All (λ c. c ≢ 10) front →
+        longest < length front → at + longest < budget →
+        told_lines comments budget at number (front ++ rest) ≡ fault_alone (LineFault.TooLong at) }
+    ensures past { (comments : Bool) (budget at number : ℕ) (front rest : List ℕ) → All (λ c. c ≢ 10) front →
+        at ≤ budget → budget ≤ at + longest → budget < at + length front →
+        told_lines comments budget at number (front ++ rest) ≡ fault_alone (LineFault.Bytes budget) }
+    ensures end_past { (comments : Bool) (budget at number : ℕ) (body rest : List ℕ) → All (λ c. c ≢ 10) body →
+        length body ≤ longest → budget < at + (length body + 1) →
+        told_lines comments budget at number (body ++ 10 ∷ rest) ≡ fault_alone (LineFault.Bytes budget) }
 {}

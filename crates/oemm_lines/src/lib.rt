@@ -1,14 +1,26 @@
-//! The lines, words and decimal numbers of a text in memory.
+//! The lines, words and decimal numbers of a text in memory, and the lines of a source.
 #![tactic(auto)]
 
+mod ahead;
+mod ends;
+mod fills;
 mod laws;
 mod lines;
 mod numbers;
+mod parts;
+mod places;
+mod stream;
+#[cfg(test)]
+mod stream_tests;
 #[cfg(test)]
 mod tests;
 mod words;
 
-pub use laws::{line_laws, number_laws, placed_line_laws, word_laws};
+pub use laws::{
+    line_laws, number_laws, placed_line_laws, told_line_laws, word_laws, word_place_laws,
+};
 pub use lines::{TextLine, next_filled};
 pub use numbers::{integer, whole};
+pub use parts::{Line, LineFault, Word, Words};
+pub use stream::Lines;
 pub use words::next_word;

@@ -36,7 +36,7 @@ fn before_line_feed(bytes: &[u8]) -> usize
 }
 
 /// The text in front of a line feed, without the carriage return right before it.
-fn without_carriage_return(text: &[u8]) -> &[u8]
+pub fn without_carriage_return(text: &[u8]) -> &[u8]
     ensures text { result.now ≡ without_return text.now }
     ensures shorter { length result.now ≤ length text.now }
 {

@@ -9,7 +9,7 @@ fn is_blank_byte(byte: u8) -> bool
 }
 
 /// How many blanks stand at the front.
-fn blanks_in_front(text: &[u8]) -> usize
+pub fn blanks_in_front(text: &[u8]) -> usize
     ensures within { result ≤ length text.now }
     ensures before { (k : ℕ) → k < result → is_blank (slice_index text.now k) ≡ true }
     ensures found { result < length text.now → is_blank (slice_index text.now result) ≡ false }
@@ -23,7 +23,7 @@ fn blanks_in_front(text: &[u8]) -> usize
 }
 
 /// How many bytes stand before the first blank.
-fn word_length(text: &[u8]) -> usize
+pub fn word_length(text: &[u8]) -> usize
     ensures within { result ≤ length text.now }
     ensures before { (k : ℕ) → k < result → is_blank (slice_index text.now k) ≡ false }
     ensures found { result < length text.now → is_blank (slice_index text.now result) ≡ true }

@@ -1,0 +1,11 @@
+use Rattle.std.proofs.Common.{arith}
+use Rattle.oemm_lines.proofs.StreamLaws.{filled_more}
+use Rattle.oemm_lines.proofs.fills.fill_from.Goals as goal
+
+pub loop-filled-preserved : goal.loop-filled-preserved
+loop-filled-preserved g c = record {
+  in_range = omega arith;
+  in_room = omega arith;
+  taken = filled_more _ _ _ _ _ _ _ _ _ c.loop-filled.invariant.taken c.in_ok-some_ahead.ensures.left c.copy_behind-count.ensures.bytes c.bytes.ensures c.skip.ensures;
+  kept = omega arith;
+}
