@@ -1,11 +1,22 @@
 //! The files that a mesh is written to.
 #![tactic(auto)]
 
+mod block;
+mod form;
+mod laws;
 mod off;
+mod ply;
 mod positions;
+mod records;
+mod stream;
+mod whole;
 
+pub use form::{Form, OutFault};
+pub use laws::form_laws;
 pub use off::off_bytes;
 pub use positions::renumber;
+pub use stream::MeshOut;
+pub use whole::write_mesh;
 
 #[cfg(test)]
 mod tests;

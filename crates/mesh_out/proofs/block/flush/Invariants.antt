@@ -1,0 +1,12 @@
+use Rattle.std.proofs.Common.{◌≤◌, length}
+use Rattle.mesh_out.specs.Stream.{PutsBefore}
+use Rattle.mesh_out.proofs.block.flush.Given as goal
+
+abbrev pub invariant-loop-sink : goal.invariant-loop-sink
+invariant-loop-sink g l = record {
+  puts : PutsBefore (g.O.Sink.held l.initial.sink) (g.O.Sink.held l.sink) l.initial.block.left l.block.left;
+  kept : g.O.Sink.faults l.initial.sink ≤ g.O.Sink.faults l.sink;
+}
+
+abbrev pub decreases-loop-sink : goal.decreases-loop-sink
+decreases-loop-sink g l = length l.block.left
