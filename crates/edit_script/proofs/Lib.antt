@@ -1,4 +1,6 @@
 pub mod Counts
 pub mod Edits
+pub mod Flows
+pub mod Limits
 pub mod Readings
 pub mod Tasks

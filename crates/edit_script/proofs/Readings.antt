@@ -1,55 +1,88 @@
 -- What is read of a script, line by line, and of a source that was taken whole.
-use Rattle.std.proofs.Common.{◌≡◌, ℕ, ◌<◌, ◌≤◌, List, [], ◌∷◌, ◌++◌, length, Some, None, Result, Ok, Err, refl, ap, sym, subst, ◌∙◌, cond, true, false, Bool, nat_lt, IfSome, IfOk, IfErr, arith, append-nil}
+use Rattle.std.proofs.Common.{◌≡◌, ◌≢◌, ℕ, ◌<◌, ◌≤◌, List, [], ◌∷◌, ◌++◌, length, Some, None, Result, Ok, Err, refl, ap, sym, subst, ◌∙◌, cond, true, false, Bool, nat_lt, IfSome, IfOk, IfErr, arith, append-nil}
 use Rattle.std.proofs.lemmas.Bool.Decides.{nat_tests}
 use Rattle.fault_counts.specs.Told.{Told, Takes, IsAtEnd}
 use Rattle.oemm_io.specs.Whole.{IsLongerThan}
 use Rattle.oemm_io.specs.declared.whole.TakeFault.{TakeFault}
 use Rattle.oemm_io.specs.declared.whole.TakeFault.TheVariants as take
 use Rattle.oemm_io.specs.declared.whole.TakeFault.TheVariants.{Failed}
-use Rattle.oemm_lines.specs.Lines.{Line, filled_from}
+use Rattle.oemm_lines.specs.declared.parts.Word.{Word}
+use Rattle.oemm_lines.specs.declared.parts.Line.{Line}
+use Rattle.oemm_lines.specs.declared.parts.LineFault.{LineFault}
+use Rattle.oemm_lines.specs.Stream.{Flow, behind, fault_alone, nothing_more, told_lines}
 use Rattle.mesh_data.specs.declared.edits.Task.{Task}
 use Rattle.mesh_data.specs.declared.edits.Script.{Script}
 use Rattle.mesh_data.specs.declared.items.What.TheVariants.{ScriptBytes}
 use Rattle.edit_script.specs.declared.fault.ScriptFault.{ScriptFault}
 use Rattle.edit_script.specs.declared.fault.ScriptFault.TheVariants.{Read, Syntax, TooMany, Memory}
 use Rattle.edit_script.specs.Line.{line_says}
-use Rattle.edit_script.specs.Grammar.{after_line, tasks_after, script_of, most_bytes, ◌>>=◌}
+use Rattle.edit_script.specs.Grammar.{after_line, line_words, has_words, fault_of_line, tasks_after, tasks_of, script_of, most_bytes, ◌>>=◌}
 use Rattle.edit_script.specs.Script.{StopsBy, GivesScript, fault_of_take}
 
--- a line that is read
-pub tasks_after_line :
-    (tasks more : List Task) (line : Line) (lines : List Line) →
-    after_line line.number tasks (line_says line.words) ≡ Ok more →
-    tasks_after tasks (line ∷ lines) ≡ tasks_after more lines
+-- a line has words, unless it has none
+words_there : (words : List Word) → words ≢ [] → nat_lt 0 (length words) ≡ true
+words_there [] some = absurd (some refl)
+words_there (w ∷ ws) some = grind (arith, nat_tests)
+
+-- a line without words says nothing
+pub tasks_passed :
+    (tasks : List Task) (l : Line) (flow : Flow) → l.words ≡ [] → tasks_of tasks (behind l flow) ≡ tasks_of tasks flow
+tasks_passed tasks l flow none =
+    let bare : has_words l ≡ false = ap (λ (ws : List Word). nat_lt 0 (length ws)) none in
+    rw bare
+
+-- the lines from one with words on
+tasks_from :
+    (tasks : List Task) (l : Line) (flow : Flow) → l.words ≢ [] →
+    tasks_of tasks (behind l flow) ≡ (after_line l.number tasks (line_says (line_words l)) >>= λ more. tasks_of more flow)
 unfolding tasks_after
-tasks_after_line tasks more line lines h =
-    ap (λ (outcome : Result (List Task) ScriptFault). outcome >>= λ next. tasks_after next lines) h
+tasks_from tasks l flow some =
+    let there : has_words l ≡ true = words_there l.words some in
+    rw there
+
+-- a line that is read
+pub tasks_read :
+    (tasks more : List Task) (l : Line) (flow : Flow) → l.words ≢ [] →
+    after_line l.number tasks (line_says (line_words l)) ≡ Ok more →
+    tasks_of tasks (behind l flow) ≡ tasks_of more flow
+tasks_read tasks more l flow some read =
+    tasks_from tasks l flow some
+    ∙ ap (λ (outcome : Result (List Task) ScriptFault). outcome >>= λ next. tasks_of next flow) read
+
+stops_first :
+    (first : Result (List Task) ScriptFault) (next : List Task → Result (List Task) ScriptFault) (fault : ScriptFault) →
+    StopsBy fault first → StopsBy fault (first >>= next)
+stops_first first next Read h = h
+stops_first first next (Syntax number why) h = ap (λ (outcome : Result (List Task) ScriptFault). outcome >>= next) h
+stops_first first next (TooMany what count) h = ap (λ (outcome : Result (List Task) ScriptFault). outcome >>= next) h
+stops_first first next Memory h = tt
 
 -- a line with a fault
-pub tasks_after_fault :
-    (tasks : List Task) (line : Line) (lines : List Line) (fault : ScriptFault) →
-    StopsBy fault (after_line line.number tasks (line_says line.words)) →
-    StopsBy fault (tasks_after tasks (line ∷ lines))
-unfolding tasks_after
-tasks_after_fault tasks line lines Read h = h
-tasks_after_fault tasks line lines (Syntax number why) h =
-    ap (λ (outcome : Result (List Task) ScriptFault). outcome >>= λ next. tasks_after next lines) h
-tasks_after_fault tasks line lines (TooMany what count) h =
-    ap (λ (outcome : Result (List Task) ScriptFault). outcome >>= λ next. tasks_after next lines) h
-tasks_after_fault tasks line lines Memory h = tt
+pub tasks_fault :
+    (tasks : List Task) (l : Line) (flow : Flow) (fault : ScriptFault) → l.words ≢ [] →
+    StopsBy fault (after_line l.number tasks (line_says (line_words l))) →
+    StopsBy fault (tasks_of tasks (behind l flow))
+tasks_fault tasks l flow fault some stops =
+    subst (StopsBy fault) (sym (tasks_from tasks l flow some))
+    (stops_first (after_line l.number tasks (line_says (line_words l))) (λ more. tasks_of more flow) fault stops)
 
 -- no further line
-pub tasks_after_none : (tasks : List Task) → tasks_after tasks [] ≡ Ok tasks
+pub tasks_none : (tasks : List Task) → tasks_of tasks nothing_more ≡ Ok tasks
 unfolding tasks_after
-tasks_after_none tasks = refl
+tasks_none tasks = refl
+
+-- a fault that stands in the place of a line
+pub tasks_stop : (tasks : List Task) (fault : LineFault) → tasks_of tasks (fault_alone fault) ≡ Err (fault_of_line fault)
+unfolding tasks_after
+tasks_stop tasks fault = refl
 
 -- a script within the limit of bytes is that of its lines
 pub script_of_short :
-    (bytes : List ℕ) → length bytes ≤ most_bytes → script_of bytes ≡ tasks_after [] (filled_from 0 1 bytes)
+    (bytes : List ℕ) → length bytes ≤ most_bytes → script_of bytes ≡ tasks_of [] (told_lines true most_bytes 0 1 bytes)
 unfolding script_of
 script_of_short bytes h =
     let within : nat_lt most_bytes (length bytes) ≡ false = grind (arith, nat_tests) in
-    ap (λ (long : Bool). cond long (Err (TooMany ScriptBytes most_bytes)) (tasks_after [] (filled_from 0 1 bytes))) within
+    ap (λ (long : Bool). cond long (Err (TooMany ScriptBytes most_bytes)) (tasks_of [] (told_lines true most_bytes 0 1 bytes))) within
 
 -- a script above the limit of bytes
 script_of_long :
@@ -57,7 +90,7 @@ script_of_long :
 unfolding script_of
 script_of_long bytes h =
     let above : nat_lt most_bytes (length bytes) ≡ true = grind (arith, nat_tests) in
-    ap (λ (long : Bool). cond long (Err (TooMany ScriptBytes most_bytes)) (tasks_after [] (filled_from 0 1 bytes))) above
+    ap (λ (long : Bool). cond long (Err (TooMany ScriptBytes most_bytes)) (tasks_of [] (told_lines true most_bytes 0 1 bytes))) above
 
 -- what holds of the bytes that were taken, to the end, holds of what is told
 pub told_whole :

@@ -1,14 +1,19 @@
 -- The tasks that the bytes of a script say, or the first fault.
-use Rattle.std.specs.Prelude.{ℕ, ◌+◌, ◌==◌, nat_lt, List, [], ◌∷◌, ◌++◌, length, count_by, Result, Ok, Err, if◌then◌else◌}
-use Rattle.oemm_lines.specs.Lines.{Line, filled_from}
+use Rattle.std.specs.Prelude.{ℕ, ◌+◌, ◌==◌, nat_lt, Bool, true, List, [], ◌∷◌, ◌++◌, length, map, count_by, Option, Some, None, Result, Ok, Err, if◌then◌else◌}
+use Rattle.std.specs.List.{filter}
+use Rattle.oemm_lines.specs.Stream.{longest, word_in, Flow, told_lines}
+use Rattle.oemm_lines.specs.declared.parts.Line.{Line}
+use Rattle.oemm_lines.specs.declared.parts.LineFault.{LineFault}
+use Rattle.oemm_lines.specs.declared.parts.LineFault.TheVariants as line
+use Rattle.oemm_lines.specs.declared.parts.LineFault.TheVariants.{TooLong, Bytes}
 use Rattle.mesh_data.specs.declared.geometry.Point.{Point}
 use Rattle.mesh_data.specs.declared.edits.Edit.{Edit}
 use Rattle.mesh_data.specs.declared.edits.Task.{Task}
 use Rattle.mesh_data.specs.declared.items.ScriptWhy.{ScriptWhy}
 use Rattle.mesh_data.specs.declared.items.ScriptWhy.TheVariants.{NoTask}
-use Rattle.mesh_data.specs.declared.items.What.TheVariants.{ScriptBytes, Tasks, Edits}
+use Rattle.mesh_data.specs.declared.items.What.TheVariants.{ScriptBytes, LineBytes, Tasks, Edits}
 use Rattle.edit_script.specs.declared.fault.ScriptFault.{ScriptFault}
-use Rattle.edit_script.specs.declared.fault.ScriptFault.TheVariants.{Syntax, TooMany}
+use Rattle.edit_script.specs.declared.fault.ScriptFault.TheVariants.{Read, Syntax, TooMany, Memory}
 use Rattle.edit_script.specs.declared.line.LineMeaning.{LineMeaning}
 use Rattle.edit_script.specs.declared.line.LineMeaning.TheVariants.{TaskLine, EditLine}
 use Rattle.edit_script.specs.Line.{line_says}
@@ -68,15 +73,39 @@ after_line number tasks (Ok (TaskLine lane low high)) = with_task tasks lane low
 after_line number tasks (Ok (EditLine edit)) = with_edit number tasks edit
 after_line number tasks (Err why) = Err (Syntax number why)
 
--- the tasks after these lines, behind the tasks so far
-unfoldable pub tasks_after : List Task → List Line → Result (List Task) ScriptFault
-tasks_after tasks [] = Ok tasks
-tasks_after tasks (line ∷ lines) = do
-  more ← after_line line.number tasks (line_says line.words)
-  tasks_after more lines
+-- the words of a line
+abbrev pub line_words : Line → List (List ℕ)
+line_words l = map (word_in l.bytes) l.words
 
--- the tasks of a script, or its first fault: the limit of bytes stands before each fault of a line
+-- whether the line has a word
+abbrev pub has_words : Line → Bool
+has_words l = nat_lt 0 (length l.words)
+
+-- the fault of a script where its lines have one
+abbrev pub fault_of_line : LineFault → ScriptFault
+fault_of_line line.Read = Read
+fault_of_line (TooLong at) = TooMany LineBytes (longest + 1)
+fault_of_line (Bytes taken) = TooMany ScriptBytes most_bytes
+fault_of_line line.Memory = Memory
+
+-- the tasks at the end of the lines, or the fault that stands behind them
+abbrev pub tasks_at_end : List Task → Option LineFault → Result (List Task) ScriptFault
+tasks_at_end tasks None = Ok tasks
+tasks_at_end tasks (Some fault) = Err (fault_of_line fault)
+
+-- the tasks after these lines and what stands behind them, behind the tasks so far
+unfoldable pub tasks_after : List Task → List Line → Option LineFault → Result (List Task) ScriptFault
+tasks_after tasks [] end = tasks_at_end tasks end
+tasks_after tasks (l ∷ lines) end = do
+  more ← after_line l.number tasks (line_says (line_words l))
+  tasks_after more lines end
+
+-- the same after those lines of a flow that have words
+abbrev pub tasks_of : List Task → Flow → Result (List Task) ScriptFault
+tasks_of tasks flow = tasks_after tasks (filter has_words flow.lines) flow.fault
+
+-- the tasks of a script, or its first fault: the limit of bytes stands before each fault of the text
 unfoldable pub script_of : List ℕ → Result (List Task) ScriptFault
 script_of bytes =
     if nat_lt most_bytes (length bytes) then Err (TooMany ScriptBytes most_bytes)
-    else tasks_after [] (filled_from 0 1 bytes)
+    else tasks_of [] (told_lines true most_bytes 0 1 bytes)

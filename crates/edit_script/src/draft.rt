@@ -1,13 +1,14 @@
-ghost use Rattle.std.specs.Prelude.{◌≡◌, ◌<◌, ℕ, List, OnOk, IfErr, IfOk};
-ghost use Rattle.oemm_lines.specs.Words.{words_of};
+ghost use Rattle.std.specs.Prelude.{◌≡◌, ◌<◌, ◌^◌, ℕ, List, All, OnOk, IfErr, IfOk};
+ghost use Rattle.oemm_lines.specs.Stream.{IsWordIn};
 ghost use Rattle.edit_script.specs.Line.{line_says};
-ghost use Rattle.edit_script.specs.Grammar.{with_task, with_edit, after_line};
+ghost use Rattle.edit_script.specs.Grammar.{with_task, with_edit, after_line, line_words};
 ghost use Rattle.edit_script.specs.Ranges.{IsBox, IsEdit, AreTasks, IsDraft};
 ghost use Rattle.edit_script.specs.Script.{StopsBy};
 
 use crate::fault::ScriptFault;
 use crate::line::{LineMeaning, line_meaning};
 use mesh_data::{Edit, Lane, List, Point, Script, ScriptWhy, Task, What};
+use oemm_lines::Line;
 use std::alloc::Global;
 use std::marker::Model;
 
@@ -49,12 +50,15 @@ impl Draft {
         }
     }
 
-    /// Reads the next line, which has this number. After an error it isn't said which tasks there are.
-    pub fn read_line(&mut self, alloc: Global, number: u32, text: &[u8]) -> Result<(), ScriptFault>
-        ensures ok { OnOk result (after_line number self.old (line_says (words_of text.now)) ≡ Ok self.new) }
-        ensures err { IfErr result (λ fault. StopsBy fault (after_line number self.old (line_says (words_of text.now)))) }
+    /// Reads the next line. After an error it isn't said which tasks there are.
+    pub fn read_line(&mut self, alloc: Global, line: &Line) -> Result<(), ScriptFault>
+        requires number { line.now.number < 2 ^ 32 }
+        requires places { All (IsWordIn line.now.bytes) line.now.words }
+        ensures ok { OnOk result (after_line line.now.number self.old (line_says (line_words line.now)) ≡ Ok self.new) }
+        ensures err { IfErr result (λ fault. StopsBy fault (after_line line.now.number self.old (line_says (line_words line.now)))) }
     {
-        match line_meaning(text) {
+        let number = line.number as u32;
+        match line_meaning(line) {
             Ok(LineMeaning::TaskLine { lane, low, high }) => self.begin(alloc, lane, low, high),
             Ok(LineMeaning::EditLine { edit }) => push_edit(&mut self.tasks, number, edit),
             Err(why) => Err(ScriptFault::Syntax { line: number, why }),

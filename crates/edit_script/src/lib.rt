@@ -3,11 +3,15 @@
 
 mod draft;
 mod fault;
+mod held;
+mod laws;
 mod line;
 mod numbers;
 mod script;
 #[cfg(test)]
 mod tests;
+mod words;
 
 pub use fault::ScriptFault;
+pub use laws::line_limit_law;
 pub use script::read_script;

@@ -1,12 +1,14 @@
-ghost use Rattle.std.specs.Prelude.{◌≡◌, ◌<◌, [], ◌∷◌, length, IfOk, OnOk, IfErr};
+ghost use Rattle.std.specs.Prelude.{◌≡◌, ◌<◌, [], ◌∷◌, All, length, IfOk, OnOk, IfErr};
 ghost use Rattle.oemm_lines.specs.Numbers.{whole_of};
-ghost use Rattle.oemm_lines.specs.Words.{words_of};
+ghost use Rattle.oemm_lines.specs.Stream.{IsWordIn};
 ghost use Rattle.edit_script.specs.Ranges.{IsWithin};
 ghost use Rattle.edit_script.specs.Line.{point_of, name_of, most_of, triangles_of, task_within, task_of, move_of, collapse_of, flip_of, simplify_of, task_says, move_says, collapse_says, flip_says, simplify_says, line_says};
+ghost use Rattle.edit_script.specs.Grammar.{line_words};
 
 use crate::numbers::{is_box, most, name, point, triangles};
+use crate::words::WordsLeft;
 use mesh_data::{Edit, Point, ScriptWhy};
-use oemm_lines::{next_word, whole};
+use oemm_lines::{Line, whole};
 
 /// What a line says.
 #[derive(Clone, Copy)]
@@ -25,31 +27,31 @@ struct PointWords<'a> {
     z: &'a [u8],
 }
 
-/// The next word, and what follows it.
-fn word(text: &[u8]) -> Result<(&[u8], &[u8]), ScriptWhy>
-    ensures ok { IfOk result (λ w. words_of text.now ≡ w.0.now ∷ words_of w.1.now) }
-    ensures err { IfErr result (λ why. (why ≡ ScriptWhy.Words) × (words_of text.now ≡ [])) }
+/// The next word.
+fn word<'a>(words: &mut WordsLeft<'a>) -> Result<&'a [u8], ScriptWhy>
+    ensures ok { IfOk result (λ w. words.old ≡ w.now ∷ words.new) }
+    ensures err { IfErr result (λ why. (why ≡ ScriptWhy.Words) × (words.old ≡ [])) }
 {
-    next_word(text).ok_or(ScriptWhy::Words)
+    words.next().ok_or(ScriptWhy::Words)
 }
 
-/// The next three words, and what follows them.
-fn point_words(text: &[u8]) -> Result<(PointWords<'_>, &[u8]), ScriptWhy>
-    ensures ok { IfOk result (λ w. words_of text.now ≡ w.0.x.now ∷ w.0.y.now ∷ w.0.z.now ∷ words_of w.1.now) }
-    ensures err { IfErr result (λ why. (why ≡ ScriptWhy.Words) × (length (words_of text.now) < 3)) }
+/// The next three words.
+fn point_words<'a>(words: &mut WordsLeft<'a>) -> Result<PointWords<'a>, ScriptWhy>
+    ensures ok { IfOk result (λ w. words.old ≡ w.x.now ∷ w.y.now ∷ w.z.now ∷ words.new) }
+    ensures err { IfErr result (λ why. (why ≡ ScriptWhy.Words) × (length words.old < 3)) }
 {
-    let (x, rest) = word(text)?;
-    let (y, rest) = word(rest)?;
-    let (z, rest) = word(rest)?;
-    Ok((PointWords { x, y, z }, rest))
+    let x = word(words)?;
+    let y = word(words)?;
+    let z = word(words)?;
+    Ok(PointWords { x, y, z })
 }
 
 /// Wants no further word.
-fn no_word(text: &[u8]) -> Result<(), ScriptWhy>
-    ensures ok { OnOk result (words_of text.now ≡ []) }
-    ensures err { IfErr result (λ why. (why ≡ ScriptWhy.Words) × (0 < length (words_of text.now))) }
+fn no_word(words: &mut WordsLeft<'_>) -> Result<(), ScriptWhy>
+    ensures ok { OnOk result (words.old ≡ []) }
+    ensures err { IfErr result (λ why. (why ≡ ScriptWhy.Words) × (0 < length words.old)) }
 {
-    match next_word(text) {
+    match words.next() {
         None => Ok(()),
         Some(_) => Err(ScriptWhy::Words),
     }
@@ -136,85 +138,87 @@ fn simplify_of(max: &[u8], target: &[u8]) -> Result<LineMeaning, ScriptWhy>
 
 /// What the words behind `task` say.
 #[tactic(auto, using(crate::proofs::Counts::task_says_count), unfolding(crate::specs::Line::task_says))]
-fn task_meaning(text: &[u8]) -> Result<LineMeaning, ScriptWhy>
-    ensures value { result ≡ task_says (words_of text.now) }
+fn task_meaning(words: &mut WordsLeft<'_>) -> Result<LineMeaning, ScriptWhy>
+    ensures value { result ≡ task_says words.old }
     ensures within { IfOk result IsWithin }
 {
-    let (lane, rest) = word(text)?;
-    let (low, rest) = point_words(rest)?;
-    let (high, rest) = point_words(rest)?;
-    no_word(rest)?;
+    let lane = word(words)?;
+    let low = point_words(words)?;
+    let high = point_words(words)?;
+    no_word(words)?;
     task_of(lane, &low, &high)
 }
 
 /// What the words behind `move` say.
 #[tactic(auto, using(crate::proofs::Counts::move_says_count), unfolding(crate::specs::Line::move_says))]
-fn move_meaning(text: &[u8]) -> Result<LineMeaning, ScriptWhy>
-    ensures value { result ≡ move_says (words_of text.now) }
+fn move_meaning(words: &mut WordsLeft<'_>) -> Result<LineMeaning, ScriptWhy>
+    ensures value { result ≡ move_says words.old }
     ensures within { IfOk result IsWithin }
 {
-    let (v, rest) = word(text)?;
-    let (to, rest) = point_words(rest)?;
-    no_word(rest)?;
+    let v = word(words)?;
+    let to = point_words(words)?;
+    no_word(words)?;
     move_of(v, &to)
 }
 
 /// What the words behind `collapse` say.
 #[tactic(auto, using(crate::proofs::Counts::collapse_says_count), unfolding(crate::specs::Line::collapse_says))]
-fn collapse_meaning(text: &[u8]) -> Result<LineMeaning, ScriptWhy>
-    ensures value { result ≡ collapse_says (words_of text.now) }
+fn collapse_meaning(words: &mut WordsLeft<'_>) -> Result<LineMeaning, ScriptWhy>
+    ensures value { result ≡ collapse_says words.old }
     ensures within { IfOk result IsWithin }
 {
-    let (u, rest) = word(text)?;
-    let (v, rest) = word(rest)?;
-    let (max, rest) = word(rest)?;
-    no_word(rest)?;
+    let u = word(words)?;
+    let v = word(words)?;
+    let max = word(words)?;
+    no_word(words)?;
     collapse_of(u, v, max)
 }
 
 /// What the words behind `flip` say.
 #[tactic(auto, using(crate::proofs::Counts::flip_says_count), unfolding(crate::specs::Line::flip_says))]
-fn flip_meaning(text: &[u8]) -> Result<LineMeaning, ScriptWhy>
-    ensures value { result ≡ flip_says (words_of text.now) }
+fn flip_meaning(words: &mut WordsLeft<'_>) -> Result<LineMeaning, ScriptWhy>
+    ensures value { result ≡ flip_says words.old }
     ensures within { IfOk result IsWithin }
 {
-    let (a, rest) = word(text)?;
-    let (b, rest) = word(rest)?;
-    no_word(rest)?;
+    let a = word(words)?;
+    let b = word(words)?;
+    no_word(words)?;
     flip_of(a, b)
 }
 
 /// What the words behind `simplify` say.
 #[tactic(auto, using(crate::proofs::Counts::simplify_says_count), unfolding(crate::specs::Line::simplify_says))]
-fn simplify_meaning(text: &[u8]) -> Result<LineMeaning, ScriptWhy>
-    ensures value { result ≡ simplify_says (words_of text.now) }
+fn simplify_meaning(words: &mut WordsLeft<'_>) -> Result<LineMeaning, ScriptWhy>
+    ensures value { result ≡ simplify_says words.old }
     ensures within { IfOk result IsWithin }
 {
-    let (max, rest) = word(text)?;
-    let (target, rest) = word(rest)?;
-    no_word(rest)?;
+    let max = word(words)?;
+    let target = word(words)?;
+    no_word(words)?;
     simplify_of(max, target)
 }
 
 /// What a line says.
 #[tactic(auto, unfolding(crate::specs::Line::line_says))]
-pub fn line_meaning(text: &[u8]) -> Result<LineMeaning, ScriptWhy>
-    ensures value { result ≡ line_says (words_of text.now) }
+pub fn line_meaning(line: &Line) -> Result<LineMeaning, ScriptWhy>
+    requires { All (IsWordIn line.now.bytes) line.now.words }
+    ensures value { result ≡ line_says (line_words line.now) }
     ensures within { IfOk result IsWithin }
 {
-    let Some((first, rest)) = next_word(text) else {
+    let mut words = WordsLeft::new(line);
+    let Some(first) = words.next() else {
         return Err(ScriptWhy::Word);
     };
     if first == b"task".as_slice() {
-        task_meaning(rest)
+        task_meaning(&mut words)
     } else if first == b"move".as_slice() {
-        move_meaning(rest)
+        move_meaning(&mut words)
     } else if first == b"collapse".as_slice() {
-        collapse_meaning(rest)
+        collapse_meaning(&mut words)
     } else if first == b"flip".as_slice() {
-        flip_meaning(rest)
+        flip_meaning(&mut words)
     } else if first == b"simplify".as_slice() {
-        simplify_meaning(rest)
+        simplify_meaning(&mut words)
     } else {
         Err(ScriptWhy::Word)
     }

@@ -1,19 +1,17 @@
-ghost use Rattle.std.specs.Prelude.{◌≡◌, ◌≤◌, ◌^◌, OnOk, IfOk, IfErr, IfSome, IsErrOf, length};
+ghost use Rattle.std.specs.Prelude.{◌≡◌, ◌≤◌, ◌^◌, [], true, None, OnOk, IfOk, IfErr, IfSome, IsErrOf, length};
 ghost use Rattle.fault_counts.specs.Counts.{Rose};
 ghost use Rattle.fault_counts.specs.Told.{IsAtEnd};
-ghost use Rattle.edit_script.specs.Grammar.{script_of};
+ghost use Rattle.edit_script.specs.Grammar.{most_bytes, script_of};
 ghost use Rattle.edit_script.specs.Ranges.{AreTasks};
 ghost use Rattle.edit_script.specs.Script.{StopsBy, GivesScript, TakesScript, fault_of_take};
 
 use crate::draft::Draft;
-use crate::fault::ScriptFault;
+use crate::fault::{MOST_BYTES, ScriptFault};
+use crate::held::HeldBytes;
 use mesh_data::{Script, What};
 use oemm_io::{Source, TakeFault, take_all};
-use oemm_lines::next_filled;
-use std::alloc::Global;
-
-/// The greatest number of bytes of a script.
-const MOST_BYTES: usize = 1 << 26;
+use oemm_lines::Lines;
+use std::alloc::{AllocError, Global};
 
 /// Reads a script to the end of its source.
 ///
@@ -50,6 +48,18 @@ fn fault_of_take(fault: TakeFault) -> ScriptFault
     }
 }
 
+/// The lines of these bytes, with comments.
+fn held_lines(alloc: Global, bytes: &[u8]) -> Result<Lines<HeldBytes<'_>>, AllocError>
+    ensures bytes { IfOk result (λ lines. (lines.source.left.now ≡ bytes.now) × (lines.ahead ≡ [])) }
+    ensures begin { IfOk result (λ lines. (lines.at ≡ 0) × (lines.number ≡ 1) × (lines.fault ≡ None)) }
+    ensures form { IfOk result (λ lines. (lines.budget ≡ most_bytes) × (lines.comments ≡ true)) }
+{
+    match Lines::new(alloc, HeldBytes { left: bytes }, MOST_BYTES as u64, true) {
+        Ok(lines) => Ok(lines),
+        Err((_, error)) => Err(error),
+    }
+}
+
 /// The script of these bytes.
 fn script_of_bytes(alloc: Global, bytes: &[u8]) -> Result<Script, ScriptFault>
     requires { length bytes.now ≤ 2 ^ 26 }
@@ -57,15 +67,12 @@ fn script_of_bytes(alloc: Global, bytes: &[u8]) -> Result<Script, ScriptFault>
     ensures err { IfErr result (λ fault. StopsBy fault (script_of bytes.now)) }
     ensures ranges { IfOk result (λ script. AreTasks script.tasks) }
 {
+    let mut lines = held_lines(alloc, bytes)?;
     let mut draft = Draft::new(alloc);
-    let mut rest = bytes;
-    let mut at = 0;
-    let mut number = 1;
-    while let Some(line) = next_filled(rest, at, number) {
-        draft.read_line(alloc, line.number as u32, line.text)?;
-        rest = line.rest;
-        at = line.next_at;
-        number = line.next_number;
+    while let Some(line) = lines.next()? {
+        if !line.words.is_empty() {
+            draft.read_line(alloc, &line)?;
+        }
     }
     Ok(draft.finish())
 }

@@ -1,14 +1,16 @@
-use Rattle.std.proofs.Common.{◌≡◌, ◌+◌, ◌≤◌, [], length}
-use Rattle.oemm_lines.specs.Lines.{filled_from}
-use Rattle.edit_script.specs.Grammar.{tasks_after}
+use Rattle.std.proofs.Common.{◌≡◌, ◌+◌, ◌-◌, ◌≤◌, [], ◌++◌, true, None}
+use Rattle.oemm_lines.specs.Stream.{told_lines, flow_of}
+use Rattle.edit_script.specs.Grammar.{most_bytes, tasks_of}
 use Rattle.edit_script.proofs.script.script_of_bytes.Given as goal
 
-abbrev pub invariant-loop-line : goal.invariant-loop-line
-invariant-loop-line l = record {
-  tasks : tasks_after [] (filled_from 0 1 l.bytes) ≡ tasks_after l.draft (filled_from l.at l.number l.rest);
-  place : l.at + length l.rest ≡ length l.bytes;
-  count : l.number + length l.rest ≤ 1 + length l.bytes;
+abbrev pub invariant-loop-draft : goal.invariant-loop-draft
+invariant-loop-draft l = record {
+  tasks : tasks_of [] (told_lines true most_bytes 0 1 l.bytes) ≡ tasks_of l.draft (flow_of l.lines (l.lines.ahead ++ l.lines.source.left.now));
+  calm : l.lines.fault ≡ None;
+  budget : l.lines.budget ≡ most_bytes;
+  place : l.lines.at ≤ most_bytes;
+  count : l.lines.number ≤ l.lines.at + 1;
 }
 
-abbrev pub decreases-loop-line : goal.decreases-loop-line
-decreases-loop-line l = length l.rest
+abbrev pub decreases-loop-draft : goal.decreases-loop-draft
+decreases-loop-draft l = most_bytes - l.lines.at

@@ -1,0 +1,54 @@
+-- What the lines of held bytes say, call by call.
+use Rattle.std.proofs.Common.{◌≡◌, ℕ, Bool, true, List, [], ◌++◌, Option, Some, None, Ok, Err, IsErrOf, ◌⊎◌, inl, inr, refl, ap, subst, ◌∙◌, arith}
+use Rattle.fault_counts.specs.Counts.{Rose}
+use Rattle.fault_counts.specs.Told.{Told}
+use Rattle.oemm_lines.specs.declared.parts.Line.{Line}
+use Rattle.oemm_lines.specs.declared.parts.LineFault.{LineFault}
+use Rattle.oemm_lines.specs.declared.parts.LineFault.TheVariants as line
+use Rattle.oemm_lines.specs.declared.parts.LineFault.TheVariants.{TooLong, Bytes}
+use Rattle.oemm_lines.specs.Stream.{Flow, Stream, GivesLine, GivesNext, Says, behind, nothing_more, flow_by, told_lines}
+use Rattle.mesh_data.specs.declared.edits.Task.{Task}
+use Rattle.edit_script.specs.Grammar.{fault_of_line, most_bytes, tasks_of}
+use Rattle.edit_script.specs.Script.{StopsBy}
+use Rattle.edit_script.proofs.Readings.{tasks_stop}
+
+-- before the first call
+pub flow_begins :
+    (comments : Bool) (budget at number : ℕ) (ahead left bytes : List ℕ) (fault : Option LineFault) →
+    left ≡ bytes → ahead ≡ [] → at ≡ 0 → number ≡ 1 → budget ≡ most_bytes → comments ≡ true → fault ≡ None →
+    flow_by fault (told_lines comments budget at number (ahead ++ left)) ≡ told_lines true most_bytes 0 1 bytes
+flow_begins comments budget at number ahead left bytes fault a b c d e f g = rw (a, b, c, d, e, f, g)
+
+-- a line was given
+pub line_told : (old new : Flow) (answer : Option Line) (l : Line) → answer ≡ Some l → Says (Some old) (Ok answer) (Some new) → old ≡ behind l new
+line_told old new answer l is says =
+    let told : Some old ≡ Some (behind l new) = subst (λ (a : Option Line). Says (Some old) (Ok a) (Some new)) is says in
+    cc
+
+pub line_given : {S : Type 0} (told : S → Told) (old new : Stream S) (answer : Option Line) (l : Line) → answer ≡ Some l → GivesNext told old (Ok answer) new → GivesLine told old l new
+line_given told old new answer l is gives = subst (λ (a : Option Line). GivesNext told old (Ok a) new) is gives
+
+-- no line was given
+pub none_told : (old new : Flow) (answer : Option Line) → answer ≡ None → Says (Some old) (Ok answer) (Some new) → old ≡ nothing_more
+none_told old new answer is says =
+    let told = subst (λ (a : Option Line). Says (Some old) (Ok a) (Some new)) is says in
+    told.0
+
+-- a source that never fails gives no fault of reading
+pub never_read :
+    (before : Option LineFault) (fault : LineFault) → before ≡ None →
+    (IsErrOf {T = Option Line} (Err fault) line.Read → (before ≡ Some line.Read) ⊎ Rose 0 0) → fault ≡ line.Read → ⊥
+never_read before fault calm read is =
+    elim (read (ap Err is)) [
+      | inl stood ↦ cc
+      | inr rose ↦ omega arith
+    ]
+
+-- a fault was given, and not that of a source that failed
+pub fault_told :
+    (tasks : List Task) (old new : Flow) (fault : LineFault) → (fault ≡ line.Read → ⊥) → Says (Some old) (Err fault) (Some new) →
+    StopsBy (fault_of_line fault) (tasks_of tasks old)
+fault_told tasks old new line.Read other says = absurd (other refl)
+fault_told tasks old new (TooLong at) other says = ap (tasks_of tasks) says.0 ∙ tasks_stop tasks (TooLong at)
+fault_told tasks old new (Bytes taken) other says = ap (tasks_of tasks) says.0 ∙ tasks_stop tasks (Bytes taken)
+fault_told tasks old new line.Memory other says = tt
