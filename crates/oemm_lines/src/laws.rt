@@ -1,41 +1,11 @@
 ghost use Rattle.std.specs.Prelude.{◌≡◌, ◌≢◌, ℕ, ◌+◌, ◌^◌, ◌<◌, ◌≤◌, Bool, map, List, [], ◌∷◌, ◌++◌, length, true, false, Some, ℤ, nat_abs, All};
 ghost use Rattle.std.specs.Fmt.{decimal, signed_decimal};
 ghost use Rattle.oemm_lines.specs.Words.{is_blank, words_of};
-ghost use Rattle.oemm_lines.specs.Lines.{raw_lines, lines_from, filled_from, without_return};
+ghost use Rattle.oemm_lines.specs.Lines.{without_return};
 ghost use Rattle.oemm_lines.specs.Numbers.{whole_of, integer_of};
 ghost use Rattle.oemm_lines.specs.Stream.{longest, uncommented, words_in, word_in, IsWordIn, line_of, behind, fault_alone, nothing_more, told_lines};
 
 use super::parts::LineFault;
-
-/// How a text falls into lines, by the bytes in front of its first line feed.
-pub fn line_laws()
-    ensures ended { (body rest : List ℕ) → All (λ c. c ≢ 10) body →
-        raw_lines (body ++ 10 ∷ rest) ≡ record { text = without_return body; size = length body + 1 } ∷ raw_lines rest }
-    ensures last { (body : List ℕ) → body ≢ [] → All (λ c. c ≢ 10) body →
-        raw_lines body ≡ record { text = body; size = length body } ∷ [] }
-    ensures none { raw_lines [] ≡ [] }
-{}
-
-/// The same of the lines with their places, and of those that have words.
-pub fn placed_line_laws()
-    ensures ended { (at number : ℕ) (body rest : List ℕ) → All (λ c. c ≢ 10) body →
-        lines_from at number (body ++ 10 ∷ rest)
-        ≡ record { at = at; number = number; words = words_of (without_return body) }
-        ∷ lines_from (at + (length body + 1)) (number + 1) rest }
-    ensures last { (at number : ℕ) (body : List ℕ) → body ≢ [] → All (λ c. c ≢ 10) body →
-        lines_from at number body ≡ record { at = at; number = number; words = words_of body } ∷ [] }
-    ensures none { (at number : ℕ) → lines_from at number [] ≡ [] }
-    ensures filled { (at number : ℕ) (body rest : List ℕ) → All (λ c. c ≢ 10) body → words_of (without_return body) ≢ [] →
-        filled_from at number (body ++ 10 ∷ rest)
-        ≡ record { at = at; number = number; words = words_of (without_return body) }
-        ∷ filled_from (at + (length body + 1)) (number + 1) rest }
-    ensures passed { (at number : ℕ) (body rest : List ℕ) → All (λ c. c ≢ 10) body → words_of (without_return body) ≡ [] →
-        filled_from at number (body ++ 10 ∷ rest) ≡ filled_from (at + (length body + 1)) (number + 1) rest }
-    ensures filled_last { (at number : ℕ) (body : List ℕ) → All (λ c. c ≢ 10) body → words_of body ≢ [] →
-        filled_from at number body ≡ record { at = at; number = number; words = words_of body } ∷ [] }
-    ensures passed_last { (at number : ℕ) (body : List ℕ) → All (λ c. c ≢ 10) body → words_of body ≡ [] →
-        filled_from at number body ≡ [] }
-{}
 
 /// How a line falls into words.
 pub fn word_laws()

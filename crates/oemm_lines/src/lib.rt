@@ -1,4 +1,4 @@
-//! The lines, words and decimal numbers of a text in memory, and the lines of a source.
+//! The lines of a source, and the words and decimal numbers of a line.
 #![tactic(auto)]
 
 mod ahead;
@@ -16,10 +16,7 @@ mod stream_tests;
 mod tests;
 mod words;
 
-pub use laws::{
-    line_laws, number_laws, placed_line_laws, told_line_laws, word_laws, word_place_laws,
-};
-pub use lines::{TextLine, next_filled};
+pub use laws::{number_laws, told_line_laws, word_laws, word_place_laws};
 pub use numbers::{integer, whole};
 pub use parts::{Line, LineFault, Word, Words};
 pub use stream::Lines;

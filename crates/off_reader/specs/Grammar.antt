@@ -1,7 +1,8 @@
--- What an OFF mesh says, as a function of those of its lines that have words.
+-- What an OFF mesh says, as a function of its lines and of the fault that stands behind them.
 -- Of each line, at is the number of bytes before it, and its words are looked at one by one.
-use Rattle.std.specs.Prelude.{◌≡◌, ℕ, ◌+◌, ◌-◌, ◌^◌, Bool, false, ◌||◌, ◌==◌, nat_lt, nat_le, ℤ, pos, negsuc, List, [], ◌∷◌, length, drop, if◌then◌else◌, Option, Some, None, Result, Ok, Err, ⊤}
+use Rattle.std.specs.Prelude.{ℕ, ◌+◌, ◌-◌, ◌^◌, Bool, true, false, ◌||◌, ◌==◌, nat_lt, nat_le, ℤ, pos, negsuc, List, [], ◌∷◌, length, map, All, slice_get, if◌then◌else◌, Option, Some, None, Result, Ok, Err, ⊤}
 use Rattle.std.specs.Option.{ok_or}
+use Rattle.std.specs.List.{filter}
 use Rattle.std.specs.Str.{bytes_eq}
 use Rattle.mesh_data.specs.Octree.{on_grid}
 use Rattle.mesh_data.specs.declared.geometry.Point.{Point}
@@ -9,24 +10,32 @@ use Rattle.mesh_data.specs.declared.geometry.Tri.{Tri}
 use Rattle.mesh_data.specs.declared.items.Item.{Item}
 use Rattle.mesh_data.specs.declared.items.Item.TheVariants.{Counts, Vertex, Face}
 use Rattle.mesh_data.specs.declared.items.What.{What}
-use Rattle.mesh_data.specs.declared.items.What.TheVariants.{Vertices, Faces}
-use Rattle.mesh_data.specs.declared.items.MeshWhy.TheVariants.{Head, Words, Number, OutOfRange, NotTriangle, BadIndex, Repeated, Cut}
+use Rattle.mesh_data.specs.declared.items.What.TheVariants.{Vertices, Faces, MeshBytes, LineBytes}
+use Rattle.mesh_data.specs.declared.items.MeshWhy.{MeshWhy}
+use Rattle.mesh_data.specs.declared.items.MeshWhy.TheVariants.{Head, Words, Number, NotInteger, OutOfRange, NotTriangle, BadIndex, Repeated, Cut}
 use Rattle.mesh_data.specs.declared.items.MeshFault.{MeshFault}
 use Rattle.mesh_data.specs.declared.items.MeshFault.TheVariants.{Read, Text, TooMany, Memory}
 use Rattle.mesh_data.specs.Reading.{Reading, behind, fault_alone, nothing_more, most_items}
-use Rattle.oemm_lines.specs.Lines.{Line, filled_from}
-use Rattle.oemm_lines.specs.Numbers.{whole_of, integer_of}
+use Rattle.oemm_lines.specs.declared.parts.Word.{Word}
+use Rattle.oemm_lines.specs.declared.parts.Line.{Line}
+use Rattle.oemm_lines.specs.declared.parts.LineFault.{LineFault}
+use Rattle.oemm_lines.specs.declared.parts.LineFault.TheVariants as line
+use Rattle.oemm_lines.specs.Numbers.{whole_of}
+use Rattle.oemm_lines.specs.Stream.{Flow, word_in, IsWordIn, told_lines}
+use Rattle.off_reader.specs.Numbers.{signed_of, coordinate_in, is_decimal}
+
+-- the greatest number of bytes of a mesh that are looked at, and the number of bytes from which on a line is too long
+abbrev pub most_mesh_bytes : ℕ
+most_mesh_bytes = 8589934592
+
+abbrev pub too_many_line_bytes : ℕ
+too_many_line_bytes = 65537
 
 infixl 10 ◌>>=◌
 -- goes on with what was read, and stops at a fault
 abbrev pub ◌>>=◌ : {A B : Type 0} → Result A MeshFault → (A → Result B MeshFault) → Result B MeshFault
 (Ok x) >>= f = f x
 (Err e) >>= f = Err e
-
--- what a function returned, seen by view, is what the grammar gives
-abbrev pub Answers : {X Y : Type 0} → (X → Y) → Result X MeshFault → Result Y MeshFault → Type 0
-Answers view (Ok x) given = given ≡ Ok (view x)
-Answers view (Err f) given = given ≡ Err f
 
 -- a fault of the text, and not of its source or of memory
 abbrev pub IsOfText : MeshFault → Type 0
@@ -35,10 +44,17 @@ IsOfText (TooMany what count) = ⊤
 IsOfText Read = ⊥
 IsOfText Memory = ⊥
 
--- the next word as it is read, and the words behind it
-unfoldable pub next : {A : Type 0} → ℕ → (List ℕ → Result A MeshFault) → List (List ℕ) → Result (A × List (List ℕ)) MeshFault
-next at read [] = Err (Text at Words)
-next at read (word ∷ words) = read word >>= λ x. Ok (x, words)
+-- the words of a line
+abbrev pub texts : Line → List (List ℕ)
+texts l = map (word_in l.bytes) l.words
+
+-- the words stand in the line
+abbrev pub IsPlaced : Line → Type 0
+IsPlaced l = All (IsWordIn l.bytes) l.words
+
+-- the word at this place of a line as it is read; a line in which none stands there has too few
+unfoldable pub word_as : {A : Type 0} → (List ℕ → Result A MeshFault) → ℕ → Line → Result A MeshFault
+word_as read place l = ok_or (slice_get (texts l) place) (Text l.at Words) >>= read
 
 -- a number that is to keep the limits of a count
 abbrev pub limited : ℕ → What → ℕ → Result ℕ MeshFault
@@ -53,26 +69,30 @@ count_of at what word = do
   n ← ok_or (whole_of word) (Text at Number)
   limited at what n
 
--- the number of vertices, and that of faces; further words aren't looked at
-unfoldable pub counts_of : ℕ → List (List ℕ) → Result (ℕ × ℕ) MeshFault
-counts_of at words = do
-  vertices ← next at (count_of at Vertices) words
-  faces ← next at (count_of at Faces) vertices.1
-  Ok (vertices.0, faces.0)
+-- the number of vertices at this place, and that of faces behind it; further words aren't looked at
+unfoldable pub counts_of : ℕ → Line → Result (ℕ × ℕ) MeshFault
+counts_of place l = do
+  vertices ← word_as (count_of l.at Vertices) place l
+  faces ← word_as (count_of l.at Faces) (place + 1) l
+  Ok (vertices, faces)
 
--- the coordinate of this vertex that a word writes with an optional minus and digits
+-- what is wrong with a word that is to write a whole number and doesn't
+abbrev pub not_whole : ℕ → List ℕ → MeshWhy
+not_whole vertex word = if is_decimal word then NotInteger vertex else Number
+
+-- the coordinate of this vertex that a word writes
 unfoldable pub coordinate_of : ℕ → ℕ → List ℕ → Result ℤ MeshFault
 coordinate_of at vertex word = do
-  n ← ok_or (integer_of word) (Text at Number)
+  n ← ok_or (coordinate_in word) (Text at (not_whole vertex word))
   if on_grid n then Ok n else Err (Text at (OutOfRange vertex))
 
 -- the point of this vertex; further words aren't looked at
-unfoldable pub vertex_of : ℕ → ℕ → List (List ℕ) → Result Point MeshFault
-vertex_of at vertex words = do
-  x ← next at (coordinate_of at vertex) words
-  y ← next at (coordinate_of at vertex) x.1
-  z ← next at (coordinate_of at vertex) y.1
-  Ok (record { x = x.0; y = y.0; z = z.0 })
+unfoldable pub vertex_of : ℕ → Line → Result Point MeshFault
+vertex_of vertex l = do
+  x ← word_as (coordinate_of l.at vertex) 0 l
+  y ← word_as (coordinate_of l.at vertex) 1 l
+  z ← word_as (coordinate_of l.at vertex) 2 l
+  Ok (record { x = x; y = y; z = z })
 
 -- the number of corners of this face that a word writes in digits, which is to be three
 unfoldable pub corners_of : ℕ → ℕ → List ℕ → Result ℕ MeshFault
@@ -85,10 +105,10 @@ abbrev pub name_of : ℕ → ℤ → Option ℕ
 name_of vertices (pos n) = if nat_lt n vertices then Some n else None
 name_of vertices (negsuc n) = None
 
--- what the index means that a word writes with an optional minus and digits
+-- what the index means that a word writes with an optional sign and digits
 unfoldable pub index_of : ℕ → ℕ → List ℕ → Result (Option ℕ) MeshFault
 index_of at vertices word = do
-  n ← ok_or (integer_of word) (Text at Number)
+  n ← ok_or (signed_of word) (Text at Number)
   Ok (name_of vertices n)
 
 -- the triangle that this face's three indices mean
@@ -100,60 +120,86 @@ triangle_of at face i j k = do
   if a == b || b == c || c == a then Err (Text at (Repeated face)) else Ok (record { a = a; b = b; c = c })
 
 -- the triangle of this face among so many vertices; further words aren't looked at
-unfoldable pub face_of : ℕ → ℕ → ℕ → List (List ℕ) → Result Tri MeshFault
-face_of at vertices face words = do
-  corners ← next at (corners_of at face) words
-  i ← next at (index_of at vertices) corners.1
-  j ← next at (index_of at vertices) i.1
-  k ← next at (index_of at vertices) j.1
-  triangle_of at face i.0 j.0 k.0
+unfoldable pub face_of : ℕ → ℕ → Line → Result Tri MeshFault
+face_of vertices face l = do
+  corners ← word_as (corners_of l.at face) 0 l
+  i ← word_as (index_of l.at vertices) 1 l
+  j ← word_as (index_of l.at vertices) 2 l
+  k ← word_as (index_of l.at vertices) 3 l
+  triangle_of l.at face i j k
 
 -- the item of a line that follows so many vertices and faces
-unfoldable pub item_of : ℕ → ℕ → ℕ → List (List ℕ) → Result Item MeshFault
-item_of at vertices done words =
+unfoldable pub item_of : ℕ → ℕ → Line → Result Item MeshFault
+item_of vertices done l =
     if nat_lt done vertices
-    then (vertex_of at done words >>= λ p. Ok (Vertex p))
-    else (face_of at vertices (done - vertices) words >>= λ t. Ok (Face t))
+    then (vertex_of done l >>= λ p. Ok (Vertex p))
+    else (face_of vertices (done - vertices) l >>= λ t. Ok (Face t))
+
+-- the lines with words, and the fault that stands where a further one is wanted
+pub record Filled : Type 0 where
+  pub lines : List Line
+  pub end : MeshFault
 
 -- the reading with this item at its front, or the fault in the item's place
 abbrev pub begun_by : Result Item MeshFault → Reading → Reading
 begun_by (Ok item) reading = behind item reading
 begun_by (Err fault) reading = fault_alone fault
 
--- the vertices and faces to come in a source of so many bytes, after so many of them; nothing behind them is looked at
-unfoldable pub body : ℕ → ℕ → ℕ → ℕ → List Line → Reading
-body size vertices faces done [] = if done == vertices + faces then nothing_more else fault_alone (Text size Cut)
-body size vertices faces done (line ∷ lines) =
+-- the vertices and faces on these lines, behind so many of them; nothing behind the last one is looked at
+unfoldable pub body_of : ℕ → ℕ → ℕ → MeshFault → List Line → Reading
+body_of vertices faces done end [] = if done == vertices + faces then nothing_more else fault_alone end
+body_of vertices faces done end (l ∷ ls) =
     if done == vertices + faces then nothing_more
-    else begun_by (item_of line.at vertices done line.words) (body size vertices faces (done + 1) lines)
+    else begun_by (item_of vertices done l) (body_of vertices faces (done + 1) end ls)
 
 -- the counts, and the vertices and faces behind them
-abbrev pub counted : ℕ → Result (ℕ × ℕ) MeshFault → List Line → Reading
-counted size (Ok counts) lines = behind (Counts counts.0 counts.1) (body size counts.0 counts.1 0 lines)
-counted size (Err fault) lines = fault_alone fault
+abbrev pub counted : Result (ℕ × ℕ) MeshFault → MeshFault → List Line → Reading
+counted (Ok counts) end ls = behind (Counts counts.0 counts.1) (body_of counts.0 counts.1 0 end ls)
+counted (Err fault) end ls = fault_alone fault
 
 -- a mesh from the line of its counts on
-unfoldable pub from_counts : ℕ → List Line → Reading
-from_counts size [] = fault_alone (Text size Cut)
-from_counts size (line ∷ lines) = counted size (counts_of line.at line.words) lines
+unfoldable pub from_counts : MeshFault → List Line → Reading
+from_counts end [] = fault_alone end
+from_counts end (l ∷ ls) = counted (counts_of 0 l) end ls
 
--- a mesh from the words behind its first one on: they are the counts, if there are any
-unfoldable pub behind_head : ℕ → ℕ → List (List ℕ) → List Line → Reading
-behind_head size at [] lines = from_counts size lines
-behind_head size at (word ∷ words) lines = counted size (counts_of at (word ∷ words)) lines
+-- whether a word, if there is one, is OFF
+abbrev pub is_head : Option (List ℕ) → Bool
+is_head None = false
+is_head (Some word) = bytes_eq word (79 ∷ 70 ∷ 70 ∷ [])
 
--- whether the first word is OFF
-abbrev pub has_head : List (List ℕ) → Bool
-has_head [] = false
-has_head (word ∷ words) = bytes_eq word (79 ∷ 70 ∷ 70 ∷ [])
+-- a mesh from the line of its first word on: further words of that line are the counts
+unfoldable pub from_head : Line → MeshFault → List Line → Reading
+from_head l end ls = if nat_lt 1 (length l.words) then counted (counts_of 1 l) end ls else from_counts end ls
 
--- a mesh from its first line on
-unfoldable pub head_reading : ℕ → List Line → Reading
-head_reading size [] = fault_alone (Text size Cut)
-head_reading size (line ∷ lines) =
-    if has_head line.words then behind_head size line.at (drop 1 line.words) lines
-    else fault_alone (Text line.at Head)
+-- a mesh from its first line with words on
+unfoldable pub mesh_of : MeshFault → List Line → Reading
+mesh_of end [] = fault_alone end
+mesh_of end (l ∷ ls) = if is_head (slice_get (texts l) 0) then from_head l end ls else fault_alone (Text l.at Head)
+
+-- the fault that stands behind the lines of a source of so many bytes
+abbrev pub end_fault : ℕ → Option LineFault → MeshFault
+end_fault size None = Text size Cut
+end_fault size (Some line.Read) = Read
+end_fault size (Some (line.TooLong at)) = TooMany LineBytes too_many_line_bytes
+end_fault size (Some (line.Bytes taken)) = TooMany MeshBytes most_mesh_bytes
+end_fault size (Some line.Memory) = Memory
+
+-- whether there is a word
+abbrev pub has_any : List Word → Bool
+has_any [] = false
+has_any (word ∷ words) = true
+
+abbrev pub has_words : Line → Bool
+has_words l = has_any l.words
+
+-- the lines with words among those of a source of so many bytes
+abbrev pub filled : ℕ → Flow → Filled
+filled size f = record { lines = filter has_words f.lines; end = end_fault size f.fault }
+
+-- what these lines say of a mesh
+abbrev pub mesh_reading : Filled → Reading
+mesh_reading f = mesh_of f.end f.lines
 
 -- what all bytes of a source say
 abbrev pub off_reading : List ℕ → Reading
-off_reading bytes = head_reading (length bytes) (filled_from 0 1 bytes)
+off_reading bytes = mesh_reading (filled (length bytes) (told_lines true most_mesh_bytes 0 1 bytes))

@@ -1,2 +1,3 @@
+pub mod Numbers
 pub mod Grammar
 pub mod Reader

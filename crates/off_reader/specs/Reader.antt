@@ -1,48 +1,76 @@
--- How far a text was read, what was given up to there, and what is left.
-use Rattle.std.specs.Prelude.{◌≡◌, ℕ, ◌+◌, ◌-◌, ◌^◌, ◌≤◌, ◌<◌, min, List, length, drop, Option, Some, None, Result, Ok, Err, ⊤}
+-- How far a mesh was read, what was given up to there, and what is left.
+use Rattle.std.specs.Prelude.{◌≡◌, ℕ, ◌+◌, ◌-◌, ◌≤◌, ◌<◌, min, true, [], ◌∷◌, if◌then◌else◌, Option, Some, None, Result, Ok, Err}
+use Rattle.std.specs.Option.{option_map}
+use Rattle.fault_counts.specs.Told.{Told}
 use Rattle.mesh_data.specs.declared.items.Item.{Item}
 use Rattle.mesh_data.specs.declared.items.Item.TheVariants.{Counts, Vertex, Face}
 use Rattle.mesh_data.specs.declared.items.MeshFault.{MeshFault}
 use Rattle.mesh_data.specs.Reading.{Reading, Given, Gives, IsComplete, behind, fault_alone, nothing_more, most_items}
 use Rattle.mesh_data.specs.Triangles.{IsProper, IsBelow}
-use Rattle.oemm_lines.specs.Lines.{Line, filled_from}
-use Rattle.off_reader.specs.declared.place.Place.{Place}
-use Rattle.off_reader.specs.declared.head.Begun.{Begun}
-use Rattle.off_reader.specs.declared.position.Position.{Position}
-use Rattle.off_reader.specs.Grammar.{head_reading, body, IsOfText}
+use Rattle.oemm_lines.specs.declared.parts.Line.{Line}
+use Rattle.oemm_lines.specs.Stream.{Flow, Stream, end_of, flow_left}
+use Rattle.off_reader.specs.declared.progress.Progress.{Progress}
+use Rattle.off_reader.specs.Grammar.{Filled, IsOfText, body_of, filled, from_counts, has_words, mesh_reading, most_mesh_bytes}
 
--- as many bytes as can be read
-abbrev pub IsReadable : List ℕ → Type 0
-IsReadable bytes = length bytes < 2 ^ 64 - 1
+-- the lines of a source before the first of them was asked for, with comments and the limit of a mesh
+abbrev pub new_lines : {S : Type 0} → S → Stream S
+new_lines source =
+    record {
+      source = source;
+      ahead = [];
+      at = 0;
+      number = 1;
+      budget = most_mesh_bytes;
+      comments = true;
+      fault = None;
+    }
 
--- a line may begin at this place in the bytes
-abbrev pub IsPlaceIn : List ℕ → Place → Type 0
-IsPlaceIn bytes p = (p.at ≤ length bytes) × (p.number ≤ p.at + 1)
+-- the lines with words that a stream has left, in a source of so many bytes, where both are told
+abbrev pub filled_by : Option ℕ → Option Flow → Option Filled
+filled_by None flow = None
+filled_by (Some size) None = None
+filled_by (Some size) (Some flow) = Some (filled size flow)
 
--- the lines with words from a place on
-abbrev pub lines_at : List ℕ → Place → List Line
-lines_at bytes p = filled_from p.at p.number (drop p.at bytes)
+abbrev pub filled_left : {S : Type 0} → (S → Told) → Stream S → Option Filled
+filled_left told s = filled_by (end_of told s) (flow_left told s)
 
--- what a function returned of a reading: a part of it, of which whole makes the reading, or the fault in its place
-abbrev pub Pops : {X : Type 0} → (X → Reading) → Result X MeshFault → Reading → Type 0
-Pops whole (Ok x) reading = reading ≡ whole x
-Pops whole (Err fault) reading = (reading ≡ fault_alone fault) × IsOfText fault
+-- a line with words before those that are left
+abbrev pub led_by : Line → Filled → Filled
+led_by line f = record { lines = line ∷ f.lines; end = f.end }
 
--- the vertices and faces to come from a place on, after so many of them
-abbrev pub body_at : List ℕ → ℕ → ℕ → ℕ → Place → Reading
-body_at bytes vertices faces done p = body (length bytes) vertices faces done (lines_at bytes p)
+-- any line before them: one without words is none of them
+abbrev pub with_line : Line → Filled → Filled
+with_line line f = record f { lines = if has_words line then line ∷ f.lines else f.lines }
+
+-- no line, and this fault
+abbrev pub ended_by : MeshFault → Filled
+ended_by fault = record { lines = []; end = fault }
+
+-- what a function returned of what was to be read: a part of it, of which whole makes it with what is left, or the
+-- fault in its place, where that is one of the text
+abbrev pub Pops : {X Y : Type 0} → (X → Filled → Y) → (MeshFault → Y) → Option Y → Result X MeshFault → Option Filled → Type 0
+Pops whole stopped old (Ok x) left = old ≡ option_map (whole x) left
+Pops whole stopped old (Err fault) left = IsOfText fault → old ≡ option_map (λ f. stopped fault) left
+
+-- a mesh from the line of its counts on
+abbrev pub counts_at : Filled → Reading
+counts_at f = from_counts f.end f.lines
+
+-- the vertices and faces to come, behind so many of them
+abbrev pub body_at : ℕ → ℕ → ℕ → Filled → Reading
+body_at vertices faces done f = body_of vertices faces done f.end f.lines
 
 -- the counts, and what stands behind them
-abbrev pub begun_reading : List ℕ → Begun → Reading
-begun_reading bytes b = behind (Counts b.vertices b.faces) (body_at bytes b.vertices b.faces 0 b.next)
+abbrev pub counts_before : ℕ × ℕ → Filled → Reading
+counts_before counts f = behind (Counts counts.0 counts.1) (body_at counts.0 counts.1 0 f)
+
+-- a vertex or a face, and what stands behind it
+abbrev pub item_before : ℕ → ℕ → ℕ → Item → Filled → Reading
+item_before vertices faces done item f = behind item (body_at vertices faces (done + 1) f)
 
 -- the counts keep their limits
 abbrev pub AreLimited : ℕ → ℕ → Type 0
 AreLimited vertices faces = (vertices ≤ most_items) × (faces ≤ most_items)
-
--- counts, and a place in these bytes
-abbrev pub IsBegunIn : List ℕ → Begun → Type 0
-IsBegunIn bytes b = AreLimited b.vertices b.faces × IsPlaceIn bytes b.next
 
 -- an item may stand behind so many vertices and faces
 abbrev pub MayFollow : ℕ → ℕ → Item → Type 0
@@ -50,14 +78,13 @@ MayFollow vertices done (Counts v f) = ⊥
 MayFollow vertices done (Vertex p) = done < vertices
 MayFollow vertices done (Face t) = (vertices ≤ done) × IsProper t × IsBelow vertices t
 
--- the reading from a place on, by the counts once they were read
-abbrev pub rest_by : Option (ℕ × ℕ) → List ℕ → ℕ → Place → Reading
-rest_by None bytes done p = head_reading (length bytes) (lines_at bytes p)
-rest_by (Some counts) bytes done p = body_at bytes counts.0 counts.1 done p
+-- the reading of what is left, by the counts once they were read
+abbrev pub rest_by : Option (ℕ × ℕ) → ℕ → Filled → Reading
+rest_by None done f = mesh_reading f
+rest_by (Some counts) done f = body_at counts.0 counts.1 done f
 
--- the reading from a position on
-abbrev pub rest_of : List ℕ → Position → Reading
-rest_of bytes p = rest_by p.counts bytes p.done p.next
+abbrev pub rest_of : Progress → Filled → Reading
+rest_of p f = rest_by p.counts p.done f
 
 -- what was given, by the counts once they were read
 abbrev pub given_by : Option (ℕ × ℕ) → ℕ → Option MeshFault → Given
@@ -65,39 +92,35 @@ given_by None done fault = record { counts = None; vertices = 0; faces = 0; faul
 given_by (Some counts) done fault =
     record { counts = Some counts; vertices = min done counts.0; faces = done - counts.0; fault = fault }
 
--- what was given up to a position
-abbrev pub given_of : Position → Option MeshFault → Given
+abbrev pub given_of : Progress → Option MeshFault → Given
 given_of p fault = given_by p.counts p.done fault
 
 -- no more was read than the counts say
 abbrev pub IsCounted : Option (ℕ × ℕ) → ℕ → Type 0
-IsCounted None done = ⊤
+IsCounted None done = done ≡ 0
 IsCounted (Some counts) done = AreLimited counts.0 counts.1 × (done ≤ counts.0 + counts.1)
 
--- a position in these bytes
-abbrev pub IsPositionIn : List ℕ → Position → Type 0
-IsPositionIn bytes p = IsPlaceIn bytes p.next × IsCounted p.counts p.done
-
 -- an item and what stands behind it, or nothing
-abbrev pub stepped_reading : List ℕ → Option (Item × Position) → Reading
-stepped_reading bytes None = nothing_more
-stepped_reading bytes (Some r) = behind r.0 (rest_of bytes r.1)
+abbrev pub stepped_reading : Option (Item × Progress) → Filled → Reading
+stepped_reading None f = nothing_more
+stepped_reading (Some r) f = behind r.0 (rest_of r.1 f)
 
--- the item is given at this position, or all that was counted is given there
-abbrev pub GivesAt : List ℕ → Position → Option (Item × Position) → Type 0
-GivesAt bytes p None = IsComplete (given_of p None)
-GivesAt bytes p (Some r) = Gives (given_of p None) r.0 (given_of r.1 None) × IsPositionIn bytes r.1
-
--- what was given, and what is left
-pub record Progress : Type 0 where
-  pub given : Given
-  pub reading : Reading
+-- the item may be given next, or all that was counted is given
+abbrev pub GivesNext : Progress → Option (Item × Progress) → Type 0
+GivesNext p None = IsComplete (given_of p None)
+GivesNext p (Some r) = Gives (given_of p None) r.0 (given_of r.1 None) × IsCounted r.1.counts r.1.done
 
 -- what is left behind a fault is that fault again
 abbrev pub left_by : Option MeshFault → Reading → Reading
 left_by None rest = rest
 left_by (Some fault) rest = fault_alone fault
 
--- the progress of a reader at a position that met this fault, or none
-abbrev pub progress_of : List ℕ → Position → Option MeshFault → Progress
-progress_of bytes p fault = record { given = given_of p fault; reading = left_by fault (rest_of bytes p) }
+-- a reader: the lines that it reads, how far it has come, and the fault that was answered
+pub record Reader (S : Type 0) : Type 0 where
+  pub lines : Stream S
+  pub progress : Progress
+  pub fault : Option MeshFault
+
+-- what it has still to give, where the source tells its bytes
+abbrev pub reading_left : {S : Type 0} → (S → Told) → Reader S → Option Reading
+reading_left told r = option_map (λ f. left_by r.fault (rest_of r.progress f)) (filled_left told r.lines)

@@ -1,49 +1,32 @@
-ghost use Rattle.std.specs.Prelude.{◌≡◌, ◌+◌, ◌<◌, IfErr, IfOk};
-ghost use Rattle.mesh_data.specs.Reading.{behind};
-ghost use Rattle.oemm_lines.specs.Words.{words_of};
-ghost use Rattle.off_reader.specs.Grammar as grammar;
-ghost use Rattle.off_reader.specs.Grammar.{IsOfText};
-ghost use Rattle.off_reader.specs.Reader.{body_at, AreLimited, IsPlaceIn, IsReadable, MayFollow, Pops};
+//! The vertices and faces of a mesh.
 
-use super::line::{face_of, vertex_of};
-use super::place::{Place, cut, next_line, place_behind};
+ghost use Rattle.std.specs.Prelude.{◌≡◌, ◌+◌, ◌≤◌, ◌<◌, None, IfOk, OnOk, IsErrOf};
+ghost use Rattle.std.specs.Option.{option_map};
+ghost use Rattle.fault_counts.specs.Counts.{Rose};
+ghost use Rattle.mesh_data.specs.Reading.{fault_alone};
+ghost use Rattle.off_reader.specs.Reader.{filled_left, body_at, item_before, MayFollow, Pops};
+
+use super::filled::next_filled;
+use super::line::item_of;
 use mesh_data::{Item, MeshFault};
+use oemm_io::Source;
+use oemm_lines::Lines;
 
-/// The item on a line that has so many bytes before it and follows so many vertices and faces.
-#[tactic(auto, unfolding(crate::specs::Grammar::item_of))]
-fn item_of(text: &[u8], at: u64, vertices: u32, done: u32) -> Result<Item, MeshFault>
-    ensures exact { result ≡ grammar.item_of at vertices done (words_of text.now) }
-    ensures fault { IfErr result IsOfText }
-    ensures next { IfOk result (MayFollow vertices done) }
-{
-    if done < vertices {
-        Ok(Item::Vertex(vertex_of(text, at, done)?))
-    } else {
-        Ok(Item::Face(face_of(text, at, vertices, done - vertices)?))
-    }
-}
-
-/// The vertex or face that follows so many others, and where what follows it begins.
-#[tactic(auto, unfolding(crate::specs::Grammar::body))]
-pub fn next_item(
-    bytes: &[u8],
-    place: Place,
+/// The vertex or face that follows so many others.
+pub fn next_item<S: Source>(
+    lines: &mut Lines<S>,
     vertices: u32,
     faces: u32,
     done: u32,
-) -> Result<(Item, Place), MeshFault>
-    requires few { IsReadable bytes.now }
-    requires place { IsPlaceIn bytes.now place }
-    requires limited { AreLimited vertices faces }
+) -> Result<Item, MeshFault>
+    requires calm { lines.old.fault ≡ None }
     requires more { done < vertices + faces }
-    ensures reading { Pops (λ r. behind r.0 (body_at bytes.now vertices faces (done + 1) r.1)) result
-        (body_at bytes.now vertices faces done place) }
-    ensures next { IfOk result (λ r. MayFollow vertices done r.0) }
-    ensures within { IfOk result (λ r. IsPlaceIn bytes.now r.1) }
+    ensures told { Pops (item_before vertices faces done) fault_alone (option_map (body_at vertices faces done) (filled_left S.left lines.old)) result (filled_left S.left lines.new) }
+    ensures calm { OnOk result (lines.new.fault ≡ None) }
+    ensures follows { IfOk result (MayFollow vertices done) }
+    ensures kept { S.faults lines.old.source ≤ S.faults lines.new.source }
+    ensures read { IsErrOf result MeshFault.Read → Rose (S.faults lines.old.source) (S.faults lines.new.source) }
 {
-    let Some(line) = next_line(bytes, place) else {
-        return Err(cut(bytes));
-    };
-    let item = item_of(line.text, line.at, vertices, done)?;
-    Ok((item, place_behind(&line)))
+    let line = next_filled(lines)?;
+    item_of(&line, vertices, done)
 }

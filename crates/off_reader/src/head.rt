@@ -1,77 +1,49 @@
-ghost use Rattle.std.specs.Prelude.{◌≡◌, IfOk, length};
-ghost use Rattle.oemm_lines.specs.Words.{words_of};
-ghost use Rattle.off_reader.specs.Grammar.{head_reading, behind_head, from_counts};
-ghost use Rattle.off_reader.specs.Reader.{lines_at, begun_reading, IsBegunIn, IsPlaceIn, IsReadable, Pops};
+//! The first line of a mesh and its counts.
 
-use super::line::counts_of;
-use super::place::{Place, cut, fault_at, next_line, place_behind};
+ghost use Rattle.std.specs.Prelude.{◌≡◌, ◌≤◌, None, IfOk, OnOk, IsErrOf};
+ghost use Rattle.std.specs.Option.{option_map};
+ghost use Rattle.fault_counts.specs.Counts.{Rose};
+ghost use Rattle.mesh_data.specs.Reading.{fault_alone};
+ghost use Rattle.off_reader.specs.Grammar.{mesh_reading};
+ghost use Rattle.off_reader.specs.Reader.{filled_left, counts_at, counts_before, AreLimited, Pops};
+
+use super::faults::fault_at;
+use super::filled::next_filled;
+use super::line::{counts_of, is_head};
 use mesh_data::{MeshFault, MeshWhy};
-use oemm_lines::{TextLine, next_word};
+use oemm_io::Source;
+use oemm_lines::Lines;
 
-/// The counts of a mesh, and where what follows them begins.
-pub struct Begun {
-    pub vertices: u32,
-    pub faces: u32,
-    pub next: Place,
+/// The number of vertices and that of faces on the next line with words.
+fn next_counts<S: Source>(lines: &mut Lines<S>) -> Result<(u32, u32), MeshFault>
+    requires { lines.old.fault ≡ None }
+    ensures told { Pops counts_before fault_alone (option_map counts_at (filled_left S.left lines.old)) result (filled_left S.left lines.new) }
+    ensures calm { OnOk result (lines.new.fault ≡ None) }
+    ensures limited { IfOk result (λ counts. AreLimited counts.0 counts.1) }
+    ensures kept { S.faults lines.old.source ≤ S.faults lines.new.source }
+    ensures read { IsErrOf result MeshFault.Read → Rose (S.faults lines.old.source) (S.faults lines.new.source) }
+{
+    let line = next_filled(lines)?;
+    counts_of(&line, 0)
 }
 
-/// The counts on the first line with a word from a place on.
-#[tactic(auto, unfolding(crate::specs::Grammar::from_counts))]
-fn counts_from(bytes: &[u8], place: Place) -> Result<Begun, MeshFault>
-    requires few { IsReadable bytes.now }
-    requires place { IsPlaceIn bytes.now place }
-    ensures reading { Pops (begun_reading bytes.now) result
-        (from_counts (length bytes.now) (lines_at bytes.now place)) }
-    ensures within { IfOk result (IsBegunIn bytes.now) }
+/// The number of vertices and that of faces of a mesh from its first line on.
+#[tactic(auto, using(crate::proofs::ItemSteps::head_alone))]
+pub fn begin<S: Source>(lines: &mut Lines<S>) -> Result<(u32, u32), MeshFault>
+    requires { lines.old.fault ≡ None }
+    ensures told { Pops counts_before fault_alone (option_map mesh_reading (filled_left S.left lines.old)) result (filled_left S.left lines.new) }
+    ensures calm { OnOk result (lines.new.fault ≡ None) }
+    ensures limited { IfOk result (λ counts. AreLimited counts.0 counts.1) }
+    ensures kept { S.faults lines.old.source ≤ S.faults lines.new.source }
+    ensures read { IsErrOf result MeshFault.Read → Rose (S.faults lines.old.source) (S.faults lines.new.source) }
 {
-    let Some(line) = next_line(bytes, place) else {
-        return Err(cut(bytes));
-    };
-    let (vertices, faces) = counts_of(line.text, line.at)?;
-    let next = place_behind(&line);
-    Ok(Begun {
-        vertices,
-        faces,
-        next,
-    })
-}
-
-/// The counts from what follows the first word of this line on.
-#[tactic(auto, unfolding(crate::specs::Grammar::behind_head))]
-fn counts_behind(bytes: &[u8], line: &TextLine<'_>, rest: &[u8]) -> Result<Begun, MeshFault>
-    requires few { IsReadable bytes.now }
-    requires place { IsPlaceIn bytes.now (record { at = line.now.next_at; number = line.now.next_number }) }
-    ensures reading { Pops (begun_reading bytes.now) result
-        (behind_head (length bytes.now) line.now.at (words_of rest.now)
-        (lines_at bytes.now (record { at = line.now.next_at; number = line.now.next_number }))) }
-    ensures within { IfOk result (IsBegunIn bytes.now) }
-{
-    let next = place_behind(line);
-    if next_word(rest).is_none() {
-        return counts_from(bytes, next);
+    let line = next_filled(lines)?;
+    if !is_head(&line) {
+        return Err(fault_at(line.at, MeshWhy::Head));
     }
-    let (vertices, faces) = counts_of(rest, line.at)?;
-    Ok(Begun {
-        vertices,
-        faces,
-        next,
-    })
-}
-
-/// The counts of a mesh that begins at this place.
-#[tactic(auto, unfolding(crate::specs::Grammar::head_reading))]
-pub fn begin(bytes: &[u8], place: Place) -> Result<Begun, MeshFault>
-    requires few { IsReadable bytes.now }
-    requires place { IsPlaceIn bytes.now place }
-    ensures reading { Pops (begun_reading bytes.now) result
-        (head_reading (length bytes.now) (lines_at bytes.now place)) }
-    ensures within { IfOk result (IsBegunIn bytes.now) }
-{
-    let Some(line) = next_line(bytes, place) else {
-        return Err(cut(bytes));
-    };
-    match next_word(line.text) {
-        Some((word, rest)) if word == b"OFF".as_slice() => counts_behind(bytes, &line, rest),
-        _ => Err(fault_at(line.at, MeshWhy::Head)),
+    if line.words.len() > 1 {
+        counts_of(&line, 1)
+    } else {
+        next_counts(lines)
     }
 }

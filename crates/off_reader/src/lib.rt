@@ -3,13 +3,15 @@
 #![tactic(auto)]
 
 mod body;
+mod faults;
+mod filled;
 mod head;
 mod line;
 mod numbers;
-mod place;
-mod position;
+mod progress;
 mod reader;
 #[cfg(test)]
 mod tests;
+mod values;
 
 pub use reader::OffReader;

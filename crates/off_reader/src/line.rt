@@ -1,94 +1,108 @@
-ghost use Rattle.std.specs.Prelude.{◌≡◌, ◌≤◌, ◌<◌, IfErr, IfOk, IfSome};
+//! What stands on a line.
+
+ghost use Rattle.std.specs.Prelude.{◌≡◌, ◌+◌, ◌≤◌, ◌<◌, slice_get, IfErr, IfOk, IfSome, MatchResult};
 ghost use Rattle.mesh_data.specs.Reading.{most_items};
 ghost use Rattle.mesh_data.specs.Triangles.{IsProper, IsBelow};
-ghost use Rattle.oemm_lines.specs.Words.{words_of};
 ghost use Rattle.off_reader.specs.Grammar as grammar;
-ghost use Rattle.off_reader.specs.Grammar.{Answers, IsOfText};
+ghost use Rattle.off_reader.specs.Grammar.{texts, word_as, IsOfText, IsPlaced};
+ghost use Rattle.off_reader.specs.Reader.{AreLimited, MayFollow};
 
-use super::numbers::{coordinate_of, count_of, expect_three, index_of};
-use super::place::fault_at;
-use mesh_data::{MeshFault, MeshWhy, Name, Point, Tri, What};
-use oemm_lines::next_word;
+use super::faults::fault_at;
+use super::values::{coordinate_of, corners_of, count_of, index_of};
+use mesh_data::{Item, MeshFault, MeshWhy, Name, Point, Tri, What};
+use oemm_lines::Line;
 
-/// The next count of a line, and what follows it.
-#[tactic(auto, unfolding(crate::specs::Grammar::next))]
-fn next_count(text: &[u8], at: u64, what: What) -> Result<(u32, &[u8]), MeshFault>
-    ensures exact { Answers (λ n. (n.0, words_of n.1.now)) result
-        (grammar.next at (grammar.count_of at what) (words_of text.now)) }
-    ensures fault { IfErr result IsOfText }
-    ensures most { IfOk result (λ n. n.0 ≤ most_items) }
+/// The word at this place of a line.
+fn word_at(line: &Line, place: usize) -> Result<&[u8], MeshFault>
+    requires { IsPlaced line.now }
+    ensures { MatchResult result (λ word. slice_get (texts line.now) place ≡ Some word.now)
+        (λ fault. (slice_get (texts line.now) place ≡ None) × (fault ≡ MeshFault.Text line.now.at MeshWhy.Words)) }
 {
-    match next_word(text) {
-        Some((word, rest)) => Ok((count_of(word, at, what)?, rest)),
-        None => Err(fault_at(at, MeshWhy::Words)),
+    if place >= line.words.len() {
+        return Err(fault_at(line.at, MeshWhy::Words));
+    }
+    let word = line.words.at(place);
+    Ok(&line.bytes.slice()[word.from as usize..word.to as usize])
+}
+
+/// Whether the first word of a line is `OFF`.
+pub fn is_head(line: &Line) -> bool
+    requires { IsPlaced line.now }
+    ensures { result ≡ grammar.is_head (slice_get (texts line.now) 0) }
+{
+    match word_at(line, 0) {
+        Ok(word) => word == b"OFF".as_slice(),
+        Err(_) => false,
     }
 }
 
-/// The number of vertices and that of faces on a line that has so many bytes before it.
-#[tactic(auto, unfolding(crate::specs::Grammar::counts_of))]
-pub fn counts_of(text: &[u8], at: u64) -> Result<(u32, u32), MeshFault>
-    ensures exact { result ≡ grammar.counts_of at (words_of text.now) }
+/// The count at this place of a line.
+#[tactic(auto, unfolding(crate::specs::Grammar::word_as))]
+fn count_at(line: &Line, place: usize, what: What) -> Result<u32, MeshFault>
+    requires { IsPlaced line.now }
+    ensures exact { result ≡ word_as (grammar.count_of line.now.at what) place line.now }
     ensures fault { IfErr result IsOfText }
-    ensures most { IfOk result (λ counts. (counts.0 ≤ most_items) × (counts.1 ≤ most_items)) }
+    ensures most { IfOk result (λ n. n ≤ most_items) }
 {
-    let (vertices, rest) = next_count(text, at, What::Vertices)?;
-    let (faces, _) = next_count(rest, at, What::Faces)?;
+    count_of(word_at(line, place)?, line.at, what)
+}
+
+/// The number of vertices at this place of a line, and that of faces behind it.
+#[tactic(auto, unfolding(crate::specs::Grammar::counts_of))]
+pub fn counts_of(line: &Line, place: usize) -> Result<(u32, u32), MeshFault>
+    requires placed { IsPlaced line.now }
+    requires front { place < 2 }
+    ensures exact { result ≡ grammar.counts_of place line.now }
+    ensures fault { IfErr result IsOfText }
+    ensures most { IfOk result (λ counts. AreLimited counts.0 counts.1) }
+{
+    let vertices = count_at(line, place, What::Vertices)?;
+    let faces = count_at(line, place + 1, What::Faces)?;
     Ok((vertices, faces))
 }
 
-/// The next coordinate of this vertex, and what follows it.
-#[tactic(auto, unfolding(crate::specs::Grammar::next))]
-fn next_coordinate(text: &[u8], at: u64, vertex: u32) -> Result<(i16, &[u8]), MeshFault>
-    ensures exact { Answers (λ n. (n.0, words_of n.1.now)) result
-        (grammar.next at (grammar.coordinate_of at vertex) (words_of text.now)) }
+/// The coordinate of this vertex at this place of a line.
+#[tactic(auto, unfolding(crate::specs::Grammar::word_as))]
+fn coordinate_at(line: &Line, place: usize, vertex: u32) -> Result<i16, MeshFault>
+    requires { IsPlaced line.now }
+    ensures exact { result ≡ word_as (grammar.coordinate_of line.now.at vertex) place line.now }
     ensures fault { IfErr result IsOfText }
 {
-    match next_word(text) {
-        Some((word, rest)) => Ok((coordinate_of(word, at, vertex)?, rest)),
-        None => Err(fault_at(at, MeshWhy::Words)),
-    }
+    coordinate_of(word_at(line, place)?, line.at, vertex)
 }
 
-/// The point of this vertex on a line that has so many bytes before it.
+/// The point of this vertex.
 #[tactic(auto, unfolding(crate::specs::Grammar::vertex_of))]
-pub fn vertex_of(text: &[u8], at: u64, vertex: u32) -> Result<Point, MeshFault>
-    ensures exact { result ≡ grammar.vertex_of at vertex (words_of text.now) }
+fn vertex_of(line: &Line, vertex: u32) -> Result<Point, MeshFault>
+    requires { IsPlaced line.now }
+    ensures exact { result ≡ grammar.vertex_of vertex line.now }
     ensures fault { IfErr result IsOfText }
 {
-    let (x, rest) = next_coordinate(text, at, vertex)?;
-    let (y, rest) = next_coordinate(rest, at, vertex)?;
-    let (z, _) = next_coordinate(rest, at, vertex)?;
+    let x = coordinate_at(line, 0, vertex)?;
+    let y = coordinate_at(line, 1, vertex)?;
+    let z = coordinate_at(line, 2, vertex)?;
     Ok(Point { x, y, z })
 }
 
-/// What follows the number of this face's corners, which is three.
-#[tactic(auto, unfolding(crate::specs::Grammar::next))]
-fn behind_three(text: &[u8], at: u64, face: u32) -> Result<&[u8], MeshFault>
-    ensures exact { Answers (λ rest. (3, words_of rest.now)) result
-        (grammar.next at (grammar.corners_of at face) (words_of text.now)) }
+/// The number of this face's corners, which is three.
+#[tactic(auto, unfolding(crate::specs::Grammar::word_as))]
+fn corners_at_front(line: &Line, face: u32) -> Result<u32, MeshFault>
+    requires { IsPlaced line.now }
+    ensures exact { result ≡ word_as (grammar.corners_of line.now.at face) 0 line.now }
     ensures fault { IfErr result IsOfText }
 {
-    match next_word(text) {
-        Some((word, rest)) => {
-            expect_three(word, at, face)?;
-            Ok(rest)
-        }
-        None => Err(fault_at(at, MeshWhy::Words)),
-    }
+    corners_of(word_at(line, 0)?, line.at, face)
 }
 
-/// What the next index means, and what follows it.
-#[tactic(auto, unfolding(crate::specs::Grammar::next))]
-fn next_index(text: &[u8], at: u64, vertices: u32) -> Result<(Option<u32>, &[u8]), MeshFault>
-    ensures exact { Answers (λ i. (i.0, words_of i.1.now)) result
-        (grammar.next at (grammar.index_of at vertices) (words_of text.now)) }
+/// What the index at this place of a line means.
+#[tactic(auto, unfolding(crate::specs::Grammar::word_as))]
+fn index_at(line: &Line, place: usize, vertices: u32) -> Result<Option<u32>, MeshFault>
+    requires { IsPlaced line.now }
+    ensures exact { result ≡ word_as (grammar.index_of line.now.at vertices) place line.now }
     ensures fault { IfErr result IsOfText }
-    ensures below { IfOk result (λ i. IfSome i.0 (λ n. n < vertices)) }
+    ensures below { IfOk result (λ name. IfSome name (λ n. n < vertices)) }
 {
-    match next_word(text) {
-        Some((word, rest)) => Ok((index_of(word, at, vertices)?, rest)),
-        None => Err(fault_at(at, MeshWhy::Words)),
-    }
+    index_of(word_at(line, place)?, line.at, vertices)
 }
 
 /// The triangle that this face's three indices mean.
@@ -118,17 +132,33 @@ fn triangle_of(
     })
 }
 
-/// The triangle of this face among so many vertices, on a line that has so many bytes before it.
+/// The triangle of this face among so many vertices.
 #[tactic(auto, unfolding(crate::specs::Grammar::face_of))]
-pub fn face_of(text: &[u8], at: u64, vertices: u32, face: u32) -> Result<Tri, MeshFault>
-    ensures exact { result ≡ grammar.face_of at vertices face (words_of text.now) }
+fn face_of(line: &Line, vertices: u32, face: u32) -> Result<Tri, MeshFault>
+    requires { IsPlaced line.now }
+    ensures exact { result ≡ grammar.face_of vertices face line.now }
     ensures fault { IfErr result IsOfText }
     ensures proper { IfOk result IsProper }
     ensures below { IfOk result (IsBelow vertices) }
 {
-    let rest = behind_three(text, at, face)?;
-    let (i, rest) = next_index(rest, at, vertices)?;
-    let (j, rest) = next_index(rest, at, vertices)?;
-    let (k, _) = next_index(rest, at, vertices)?;
-    triangle_of(at, face, i, j, k)
+    corners_at_front(line, face)?;
+    let i = index_at(line, 1, vertices)?;
+    let j = index_at(line, 2, vertices)?;
+    let k = index_at(line, 3, vertices)?;
+    triangle_of(line.at, face, i, j, k)
+}
+
+/// The vertex or face on a line that follows so many others.
+#[tactic(auto, unfolding(crate::specs::Grammar::item_of))]
+pub fn item_of(line: &Line, vertices: u32, done: u32) -> Result<Item, MeshFault>
+    requires { IsPlaced line.now }
+    ensures exact { result ≡ grammar.item_of vertices done line.now }
+    ensures fault { IfErr result IsOfText }
+    ensures next { IfOk result (MayFollow vertices done) }
+{
+    if done < vertices {
+        Ok(Item::Vertex(vertex_of(line, done)?))
+    } else {
+        Ok(Item::Face(face_of(line, vertices, done - vertices)?))
+    }
 }

@@ -1,87 +1,116 @@
-ghost use Rattle.std.specs.Prelude.{◌≡◌, IfErr, IfOk, IfSome, ◌≤◌, ◌<◌};
-ghost use Rattle.mesh_data.specs.Reading.{most_items};
-ghost use Rattle.off_reader.specs.Grammar as grammar;
-ghost use Rattle.off_reader.specs.Grammar.{IsOfText, name_of};
+//! The numbers that words write.
 
-use super::place::fault_at;
-use mesh_data::{MeshFault, MeshWhy, What};
+ghost use Rattle.std.specs.Prelude.{◌≡◌, ◌+◌, ◌-◌, ◌*◌, ◌^◌, ◌≤◌, ℤ, pos, min, length, MatchOption};
+ghost use Rattle.std.specs.List.{list_all};
+ghost use Rattle.std.specs.Char.{is_ascii_digit};
+ghost use Rattle.oemm_lines.specs.Numbers.{held_back};
+ghost use Rattle.off_reader.specs.Numbers as number;
+
+use memchr::{memchr, memchr2};
 use oemm_lines::{integer, whole};
 
-/// The greatest count of vertices and of faces.
-const MOST_ITEMS: u64 = 1 << 24;
-
-/// A number that keeps the limits of a count.
-fn limited(n: u128, at: u64, what: What) -> Result<u32, MeshFault>
-    ensures exact { result ≡ grammar.limited at what n }
-    ensures fault { IfErr result IsOfText }
+/// The number as far as 2^62.
+fn held(value: u128) -> i64
+    ensures { result ≡ pos (min value (2 ^ 62)) }
 {
-    let Ok(count) = u64::try_from(n) else {
-        return Err(fault_at(at, MeshWhy::Number));
-    };
-    if count > MOST_ITEMS {
-        return Err(MeshFault::TooMany { what, count });
-    }
-    Ok(count as u32)
+    value.min(1 << 62) as i64
 }
 
-/// The count that a word writes in digits.
-#[tactic(auto, unfolding(crate::specs::Grammar::count_of))]
-pub fn count_of(word: &[u8], at: u64, what: What) -> Result<u32, MeshFault>
-    ensures exact { result ≡ grammar.count_of at what word.now }
-    ensures fault { IfErr result IsOfText }
-    ensures most { IfOk result (λ n. n ≤ most_items) }
+/// The number that a word writes with an optional sign and digits: 2^62 and -2^62 stand for each from there on.
+pub fn signed(word: &[u8]) -> Option<i64>
+    ensures { MatchOption result (number.signed_of word.now ≡ None)
+        (λ m. (z : ℤ) × (number.signed_of word.now ≡ Some z) × (m ≡ held_back z)) }
 {
-    match whole(word) {
-        Some(n) => limited(n, at, what),
-        None => Err(fault_at(at, MeshWhy::Number)),
+    let (first, digits) = word.split_first()?;
+    if *first == b'+' {
+        Some(held(whole(digits)?))
+    } else {
+        integer(word)
     }
 }
 
-/// The coordinate of this vertex that a word writes with an optional minus and digits.
-#[tactic(auto, unfolding(crate::specs::Grammar::coordinate_of))]
-pub fn coordinate_of(word: &[u8], at: u64, vertex: u32) -> Result<i16, MeshFault>
-    ensures exact { result ≡ grammar.coordinate_of at vertex word.now }
-    ensures fault { IfErr result IsOfText }
+/// The bytes behind a sign, if one stands in front.
+fn behind_sign(word: &[u8]) -> &[u8]
+    ensures { result.now ≡ number.behind_sign word.now }
 {
-    let Some(n) = integer(word) else {
-        return Err(fault_at(at, MeshWhy::Number));
-    };
-    if n < -32768 || n > 32767 {
-        return Err(fault_at(at, MeshWhy::OutOfRange { vertex }));
-    }
-    Ok(n as i16)
-}
-
-/// That the word writes three as the number of corners of this face.
-#[tactic(auto, unfolding(crate::specs::Grammar::corners_of))]
-pub fn expect_three(word: &[u8], at: u64, face: u32) -> Result<(), MeshFault>
-    ensures exact { grammar.Answers (λ _. 3) result (grammar.corners_of at face word.now) }
-    ensures fault { IfErr result IsOfText }
-{
-    match whole(word) {
-        Some(3) => Ok(()),
-        Some(_) => Err(fault_at(at, MeshWhy::NotTriangle { face })),
-        None => Err(fault_at(at, MeshWhy::Number)),
+    match word.split_first() {
+        Some((b'+' | b'-', rest)) => rest,
+        _ => word,
     }
 }
 
-/// The name that an index means among so many vertices, if it is in range.
-fn name_of(n: i64, vertices: u32) -> Option<u32>
-    ensures { result ≡ name_of vertices n }
+/// What stands in front of the first point, and what stands behind it.
+fn split_at_point(text: &[u8]) -> (&[u8], &[u8])
+    ensures front { result.0.now ≡ number.before_point text.now }
+    ensures back { result.1.now ≡ number.behind_point text.now }
+    ensures shorter { length result.0.now + length result.1.now ≤ length text.now }
 {
-    let n = u32::try_from(n).ok()?;
-    (n < vertices).then_some(n)
+    match memchr(b'.', text) {
+        Some(at) => (&text[..at], &text[at + 1..]),
+        None => (text, &[]),
+    }
 }
 
-/// What the index means that a word writes with an optional minus and digits.
-#[tactic(auto, unfolding(crate::specs::Grammar::index_of))]
-pub fn index_of(word: &[u8], at: u64, vertices: u32) -> Result<Option<u32>, MeshFault>
-    ensures exact { result ≡ grammar.index_of at vertices word.now }
-    ensures fault { IfErr result IsOfText }
-    ensures below { IfOk result (λ name. IfSome name (λ n. n < vertices)) }
+/// What stands in front of the first letter e, small or capital, and what stands from there on.
+fn split_at_letter(text: &[u8]) -> (&[u8], &[u8])
+    ensures front { result.0.now ≡ number.before_letter text.now }
+    ensures back { result.1.now ≡ number.from_letter text.now }
 {
-    match integer(word) {
-        Some(n) => Ok(name_of(n, vertices)),
-        None => Err(fault_at(at, MeshWhy::Number)),
+    match memchr2(b'e', b'E', text) {
+        Some(at) => text.split_at(at),
+        None => (text, &[]),
     }
+}
+
+/// Whether all bytes are the digit 0.
+fn are_zeros(text: &[u8]) -> bool
+    ensures { result ≡ list_all number.is_zero text.now }
+{
+    text.iter().all(|c| *c == b'0')
+}
+
+/// Whether all bytes are digits.
+fn are_digits(text: &[u8]) -> bool
+    ensures { result ≡ list_all is_ascii_digit text.now }
+{
+    text.iter().all(|c| c.is_ascii_digit())
+}
+
+/// The whole number that a word writes with an optional sign, digits and perhaps a point and zeros: 2^62 and -2^62
+/// stand for each from there on.
+#[tactic(auto, unfolding(crate::specs::Numbers::coordinate_in))]
+pub fn coordinate(word: &[u8]) -> Option<i64>
+    ensures { MatchOption result (number.coordinate_in word.now ≡ None)
+        (λ m. (z : ℤ) × (number.coordinate_in word.now ≡ Some z) × (m ≡ held_back z)) }
+{
+    let (front, back) = split_at_point(word);
+    if are_zeros(back) { signed(front) } else { None }
+}
+
+/// Whether these are digits, one or more, with at most one point among, before or behind them.
+#[tactic(auto, unfolding(crate::specs::Numbers::is_mantissa))]
+fn is_mantissa(text: &[u8]) -> bool
+    ensures { result ≡ number.is_mantissa text.now }
+{
+    let (front, back) = split_at_point(text);
+    are_digits(front) && are_digits(back) && front.len() + back.len() > 0
+}
+
+/// Whether this is nothing, or a letter, an optional sign and digits.
+fn is_exponent(text: &[u8]) -> bool
+    ensures { result ≡ number.is_exponent text.now }
+{
+    match text.split_first() {
+        None => true,
+        Some((_, digits)) => signed(digits).is_some(),
+    }
+}
+
+/// Whether a word writes a decimal number: an optional sign, digits with at most one point, and perhaps an exponent.
+#[tactic(auto, unfolding(crate::specs::Numbers::is_decimal))]
+pub fn is_decimal(word: &[u8]) -> bool
+    ensures { result ≡ number.is_decimal word.now }
+{
+    let (front, back) = split_at_letter(behind_sign(word));
+    is_mantissa(front) && is_exponent(back)
 }

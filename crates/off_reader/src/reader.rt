@@ -1,48 +1,65 @@
-use super::place::Place;
-use super::position::{Position, step};
-use mesh_data::{Bytes, Item, Items, MeshFault};
+//! A reader of a mesh.
+
+use super::progress::{Progress, step};
+use mesh_data::{Item, Items, MeshFault};
+use oemm_io::Source;
+use oemm_lines::Lines;
 use std::marker::Model;
 
-/// A reader of a mesh of the ASCII OFF format, over all its bytes.
+/// A reader of a mesh of the ASCII OFF format.
 ///
-/// Contracts see it as what it has given and what it has left to give.
+/// Nothing behind the last face is looked at, though some of it may have been taken from the source. Contracts see the
+/// reader as its lines, how far it has come, and the fault that it met.
 #[derive(Drop)]
-pub struct OffReader {
-    bytes: Bytes,
-    position: Position,
+pub struct OffReader<S> {
+    lines: Lines<S>,
+    progress: Progress,
     /// The fault that was met.
     fault: Option<MeshFault>,
 }
 
-impl Model for OffReader {
-    ghost use Rattle.off_reader.specs.Reader.{Progress};
+impl<S> Model for OffReader<S> {
+    ghost use Rattle.off_reader.specs.Reader.{Reader};
 
-    ghost Value = { Progress };
+    ghost Value = { Reader S };
 
-    ghost use Rattle.std.specs.Prelude.{IfSome};
-    ghost use Rattle.off_reader.specs.Grammar.{IsOfText};
-    ghost use Rattle.off_reader.specs.Reader.{progress_of, IsPositionIn, IsReadable};
+    ghost use Rattle.std.specs.Prelude.{◌≡◌, None};
+    ghost use Rattle.off_reader.specs.Reader.{IsCounted};
 
-    ghost view = { λ r. progress_of r.bytes r.position r.fault };
+    ghost view = { λ r. record { lines = r.lines; progress = r.progress; fault = r.fault } };
 
-    ghost invariant = { λ r.
-        IsReadable r.bytes × IsPositionIn r.bytes r.position × IfSome r.fault IsOfText };
+    ghost invariant = { λ r. IsCounted r.progress.counts r.progress.done × (r.fault ≡ None → r.lines.fault ≡ None) };
 }
 
-impl OffReader {
-    ghost use Rattle.std.specs.Prelude.{◌≡◌, ◌-◌, ◌<◌, ◌^◌, length};
+impl<S> OffReader<S> {
+    ghost use Rattle.std.specs.Prelude.{◌≡◌};
+
+    /// The source. The bytes that were read ahead are lost.
+    pub fn into_source(self) -> S
+        ensures { result ≡ self.lines.source }
+    {
+        let OffReader { lines, .. } = self;
+        lines.into_source()
+    }
+}
+
+impl<S: Source> OffReader<S> {
+    ghost use Rattle.std.specs.Prelude.{◌≡◌};
+    ghost use Rattle.std.specs.Option.{option_map};
     ghost use Rattle.mesh_data.specs.Reading.{nothing_given};
     ghost use Rattle.off_reader.specs.Grammar.{off_reading};
+    ghost use Rattle.off_reader.specs.Reader.{given_of, new_lines, reading_left};
 
-    /// A reader of all bytes of a mesh, which are fewer than 2^64 - 1.
-    pub fn new(bytes: Bytes) -> OffReader
-        requires { length bytes < 2 ^ 64 - 1 }
-        ensures { result ≡ record { given = nothing_given; reading = off_reading bytes } }
+    /// A reader of the mesh on these lines, of which none was asked for. They have comments, and a budget of 2^33 bytes.
+    pub fn new(lines: Lines<S>) -> OffReader<S>
+        requires { lines ≡ new_lines lines.source }
+        ensures source { result.lines.source ≡ lines.source }
+        ensures given { given_of result.progress result.fault ≡ nothing_given }
+        ensures reading { reading_left S.left result ≡ option_map off_reading (S.left lines.source) }
     {
         OffReader {
-            bytes,
-            position: Position {
-                next: Place { at: 0, number: 1 },
+            lines,
+            progress: Progress {
                 counts: None,
                 done: 0,
             },
@@ -51,30 +68,37 @@ impl OffReader {
     }
 }
 
-impl Items for OffReader {
-    ghost use Rattle.std.specs.Prelude.{Some, IfErr};
+impl<S: Source> Items for OffReader<S> {
+    ghost use Rattle.std.specs.Prelude.{◌≡◌, ◌≤◌, ◌⊎◌, None, Some, Err, IfOk, IfNone, IfSome};
+    ghost use Rattle.fault_counts.specs.Counts.{Rose};
     ghost use Rattle.mesh_data.specs.Reading.{Steps, Reads};
-    ghost use Rattle.off_reader.specs.Grammar.{IsOfText};
+    ghost use Rattle.off_reader.specs.Reader.{given_of, reading_left};
 
-    ghost given = { λ r. r.given };
+    ghost given = { λ r. given_of r.progress r.fault };
 
-    ghost reading = { λ r. Some r.reading };
+    ghost reading = { λ r. reading_left S.left r };
 
-    ghost faults = { λ _. 0 };
+    ghost faults = { λ r. S.faults r.lines.source };
 
-    /// The next item, or None behind the last face. A fault is one of the text: where one was answered, nothing
-    /// else has changed, and each later call answers the same one.
+    /// The next item, or None behind the last face.
+    ///
+    /// # Errors
+    /// The first fault of the mesh. Once a fault was answered, each later call answers it again. Neither then nor
+    /// behind the last face a line is asked for.
     fn next(&mut self) -> Result<Option<Item>, MeshFault>
-        ensures given { Steps self.old.given result self.new.given }
-        ensures told { Reads (Some self.old.reading) result (Some self.new.reading) }
-        ensures never { IfErr result IsOfText }
+        ensures given { Steps (given_of self.old.progress self.old.fault) result (given_of self.new.progress self.new.fault) }
+        ensures told { Reads (reading_left S.left self.old) result (reading_left S.left self.new) }
+        ensures kept { S.faults self.old.lines.source ≤ S.faults self.new.lines.source }
+        ensures read { result ≡ Err MeshFault.Read → ((given_of self.old.progress self.old.fault).fault ≡ Some MeshFault.Read) ⊎ Rose (S.faults self.old.lines.source) (S.faults self.new.lines.source) }
+        ensures end { IfOk result (λ item. IfNone item (self.new ≡ self.old)) }
+        ensures again { IfSome self.old.fault (λ fault. (result ≡ Err fault) × (self.new ≡ self.old)) }
     {
         if let Some(fault) = self.fault {
             return Err(fault);
         }
-        match step(self.bytes.slice(), self.position) {
-            Ok(Some((item, position))) => {
-                self.position = position;
+        match step(&mut self.lines, self.progress) {
+            Ok(Some((item, progress))) => {
+                self.progress = progress;
                 Ok(Some(item))
             }
             Ok(None) => Ok(None),

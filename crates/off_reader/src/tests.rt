@@ -1,46 +1,304 @@
-ghost use Rattle.std.specs.Prelude.{◌<◌, length};
+//! Meshes from sources that give one byte at a take, and all.
 
 use super::OffReader;
-use mesh_data::{Item, Items, List, MeshFault, MeshWhy, Name, Point, Tri, What};
-use std::alloc::Global;
-use std::process::Abort;
+use mesh_data::{Item, Items, MeshFault, MeshWhy, Name, Point, Tri, What};
+use oemm_io::{MemSource, Source};
+use oemm_lines::Lines;
+use std::alloc::{AllocError, Global};
 use std::test::Fail;
 
-const TETRAHEDRON: &[u8] =
-    b"OFF\n4 4 0\n0 0 0\n10 0 0\n0 -10 0\n0 0 10\n3 0 1 2\n3 0 3 1\n3 0 2 3\n3 1 3 2\n";
+/// How many items a text gives, and the fault behind them or the end.
+struct Case {
+    text: &'static [u8],
+    given: usize,
+    fault: Option<MeshFault>,
+}
 
-/// How many items the text gives, and the fault behind them, which a second call answers again.
-fn outcome(rt: &impl Abort, alloc: Global, text: &[u8]) -> Result<(usize, Option<MeshFault>), Fail>
-    requires { length text.now < 200 }
-{
-    let mut reader = OffReader::new(List::from_vec(text.to_vec(alloc)?));
-    for given in 0..20 {
+/// How many bytes of a mesh are looked at.
+const BUDGET: u64 = 1 << 33;
+
+const HEADS: [Case; 9] = [
+    Case {
+        text: b"OFF\n0 0 0\n",
+        given: 1,
+        fault: None,
+    },
+    Case {
+        text: b"OFF 0 0",
+        given: 1,
+        fault: None,
+    },
+    Case {
+        text: b"\n# no mesh\nOFFX 0 0\n",
+        given: 0,
+        fault: Some(MeshFault::Text {
+            at: 11,
+            why: MeshWhy::Head,
+        }),
+    },
+    Case {
+        text: b"off\n0 0\n",
+        given: 0,
+        fault: Some(MeshFault::Text {
+            at: 0,
+            why: MeshWhy::Head,
+        }),
+    },
+    Case {
+        text: b"OFF\0\n0 0\n",
+        given: 0,
+        fault: Some(MeshFault::Text {
+            at: 0,
+            why: MeshWhy::Head,
+        }),
+    },
+    Case {
+        text: b"OFF 0\n0 0\n",
+        given: 0,
+        fault: Some(MeshFault::Text {
+            at: 0,
+            why: MeshWhy::Words,
+        }),
+    },
+    Case {
+        text: b"OFF\n\n0 # 0\n",
+        given: 0,
+        fault: Some(MeshFault::Text {
+            at: 5,
+            why: MeshWhy::Words,
+        }),
+    },
+    Case {
+        text: b"OFF\n-1 0\n",
+        given: 0,
+        fault: Some(MeshFault::Text {
+            at: 4,
+            why: MeshWhy::Number,
+        }),
+    },
+    Case {
+        text: b"OFF\n0 1.0\n",
+        given: 0,
+        fault: Some(MeshFault::Text {
+            at: 4,
+            why: MeshWhy::Number,
+        }),
+    },
+];
+
+const LIMITS: [Case; 6] = [
+    Case {
+        text: b"OFF\n16777217 0 0\n",
+        given: 0,
+        fault: Some(MeshFault::TooMany {
+            what: What::Vertices,
+            count: 16777217,
+        }),
+    },
+    Case {
+        text: b"OFF\n16777217 abc\n",
+        given: 0,
+        fault: Some(MeshFault::TooMany {
+            what: What::Vertices,
+            count: 16777217,
+        }),
+    },
+    Case {
+        text: b"OFF 16777217",
+        given: 0,
+        fault: Some(MeshFault::TooMany {
+            what: What::Vertices,
+            count: 16777217,
+        }),
+    },
+    Case {
+        text: b"OFF\n0016777216 18446744073709551615\n",
+        given: 0,
+        fault: Some(MeshFault::TooMany {
+            what: What::Faces,
+            count: u64::MAX,
+        }),
+    },
+    Case {
+        text: b"OFF\n18446744073709551616 0\n",
+        given: 0,
+        fault: Some(MeshFault::Text {
+            at: 4,
+            why: MeshWhy::Number,
+        }),
+    },
+    Case {
+        text: b"OFF 16777216 16777216",
+        given: 1,
+        fault: Some(MeshFault::Text {
+            at: 21,
+            why: MeshWhy::Cut,
+        }),
+    },
+];
+
+const LAYOUTS: [Case; 4] = [
+    Case {
+        text: b"OFF 3 1\n0 0 0\n1 0 0\n0 1 0\n3 2 0 1",
+        given: 5,
+        fault: None,
+    },
+    Case {
+        text: b"#\n \t\r\nOFF# a\r\n#b\r\n3\t1 7 #c\r\n\n0 0 0#d\n1 0 0 5 x\r\n0 1 0\n\n\t+3#e\n",
+        given: 4,
+        fault: Some(MeshFault::Text {
+            at: 55,
+            why: MeshWhy::Number,
+        }),
+    },
+    Case {
+        text: b"OFF 3 1\n0 0 0\n1 0 0\n0 1 0\n3 +2 -0 0001 255 \xff\0\nx",
+        given: 5,
+        fault: None,
+    },
+    Case {
+        text: b"OFF\r 1 0\n1 -2 3\n",
+        given: 0,
+        fault: Some(MeshFault::Text {
+            at: 0,
+            why: MeshWhy::Head,
+        }),
+    },
+];
+
+const CUTS: [Case; 6] = [
+    Case {
+        text: b"",
+        given: 0,
+        fault: Some(MeshFault::Text {
+            at: 0,
+            why: MeshWhy::Cut,
+        }),
+    },
+    Case {
+        text: b" \t\n#\r\n ",
+        given: 0,
+        fault: Some(MeshFault::Text {
+            at: 7,
+            why: MeshWhy::Cut,
+        }),
+    },
+    Case {
+        text: b"OFF\r\n",
+        given: 0,
+        fault: Some(MeshFault::Text {
+            at: 5,
+            why: MeshWhy::Cut,
+        }),
+    },
+    Case {
+        text: b"OFF 1 0",
+        given: 1,
+        fault: Some(MeshFault::Text {
+            at: 7,
+            why: MeshWhy::Cut,
+        }),
+    },
+    Case {
+        text: b"OFF 1 0\n1 -2",
+        given: 1,
+        fault: Some(MeshFault::Text {
+            at: 8,
+            why: MeshWhy::Words,
+        }),
+    },
+    Case {
+        text: b"OFF 1 0\n1 -2 3",
+        given: 2,
+        fault: None,
+    },
+];
+
+/// A reader of bytes, of which the source gives so many at a take and fails at one take.
+fn reader(
+    alloc: Global,
+    text: &[u8],
+    piece: usize,
+    failing: u64,
+) -> Result<OffReader<MemSource>, AllocError> {
+    let text = Vec::from_slice(alloc, text)?;
+    let source = MemSource::new(text, vec![in alloc; failing]?, piece.max(1));
+    match Lines::new(alloc, source, BUDGET, true) {
+        Ok(lines) => Ok(OffReader::new(lines)),
+        Err((_, error)) => Err(error),
+    }
+}
+
+/// Whether so many items come next.
+fn gives(reader: &mut OffReader<MemSource>, count: usize) -> bool {
+    for _ in 0..count {
         match reader.next() {
             Ok(Some(_)) => {}
-            Ok(None) => return Ok((given, None)),
-            Err(fault) => {
-                assert_eq!(rt; reader.next(), Err(fault));
-                return Ok((given, Some(fault)));
-            }
+            _ => return false,
         }
     }
-    Err(Fail::from("the reader doesn't end"))
+    true
 }
 
-/// A fault of a line that begins at this byte.
-fn at(at: u64, why: MeshWhy) -> Option<MeshFault> {
-    Some(MeshFault::Text { at, why })
+/// Whether the reader gives no item more, or this fault.
+fn ends(reader: &mut OffReader<MemSource>, fault: Option<MeshFault>) -> bool {
+    match (reader.next(), fault) {
+        (Ok(None), None) => true,
+        (Err(fault), Some(wanted)) => fault == wanted,
+        _ => false,
+    }
 }
 
-fn too_many(what: What, count: u64) -> Option<MeshFault> {
-    Some(MeshFault::TooMany { what, count })
+/// Whether a case holds with so many bytes at a take, and the end comes again.
+fn holds(alloc: Global, case: &Case, piece: usize) -> Result<bool, AllocError> {
+    let mut reader = reader(alloc, case.text, piece, 0)?;
+    Ok(
+        gives(&mut reader, case.given)
+            && ends(&mut reader, case.fault)
+            && ends(&mut reader, case.fault),
+    )
+}
+
+/// Which of these cases fails with takes of one byte or of all.
+fn first_failing(alloc: Global, cases: &[Case]) -> Result<Option<usize>, AllocError> {
+    for (i, case) in cases.iter().enumerate() {
+        if !(holds(alloc, case, 1)? && holds(alloc, case, 1000)?) {
+            return Ok(Some(i));
+        }
+    }
+    Ok(None)
 }
 
 #[test]
+fn heads(rt: HostRuntime) {
+    assert_eq!(rt; first_failing(rt.alloc(), &HEADS), Ok(None));
+}
+
+#[test]
+fn limits(rt: HostRuntime) {
+    assert_eq!(rt; first_failing(rt.alloc(), &LIMITS), Ok(None));
+}
+
+#[test]
+fn layouts(rt: HostRuntime) {
+    assert_eq!(rt; first_failing(rt.alloc(), &LAYOUTS), Ok(None));
+}
+
+#[test]
+fn cuts(rt: HostRuntime) {
+    assert_eq!(rt; first_failing(rt.alloc(), &CUTS), Ok(None));
+}
+
+/// Texts of one triangle.
+const TRIANGLES: [&[u8]; 3] = [
+    b"OFF 3 1\n1 -2 32767\n-32768 0 7\n4 5 6\n3 2 0 1",
+    b"#\r\n \t\nOFF#\n#b\r\n3\t1 0 seen#c\r\n\n 1.0 -2. +32767#\r\n-32768 -0 007 \xff\n\n4\t5 6\r\n\t3 2 00 +1 255 0\r\n",
+    b"OFF\n3 1 0\n1 -2 32767 x\n-32768.0 0.000 7\r\n4 5 6#\n#\n03 +2 -0 0001 #\nrest",
+];
+
+#[test]
 fn items(rt: HostRuntime) -> Result<(), Fail> {
-    let text =
-        b"OFF 3 1 0 seen\r\n\n 1\t-2 32767 7\r\n-32768 -0 007\n\t\n4 5 6\n3 2 00 1 255 0 0\nrest";
-    let expected = [
+    let items = [
         Item::Counts { v: 3, f: 1 },
         Item::Vertex(Point {
             x: 1,
@@ -59,113 +317,268 @@ fn items(rt: HostRuntime) -> Result<(), Fail> {
             c: Name(1),
         }),
     ];
-    let mut reader = OffReader::new(List::from_vec(text.to_vec(rt.alloc())?));
-    for item in &expected {
-        assert_eq!(rt; reader.next(), Ok(Some(*item)));
-    }
-    assert_eq!(rt; reader.next(), Ok(None));
-    assert_eq!(rt; reader.next(), Ok(None));
-    Ok(())
-}
-
-#[test]
-fn faults(rt: HostRuntime) -> Result<(), Fail> {
-    let rows: [(&[u8], usize, Option<MeshFault>); 31] = [
-        (TETRAHEDRON, 9, None),
-        (b"OFF\n0 0", 1, None),
-        (b"", 0, at(0, MeshWhy::Cut)),
-        (b"\n \n", 0, at(3, MeshWhy::Cut)),
-        (b"\nOFFX 1 1\n", 0, at(1, MeshWhy::Head)),
-        (b"OF", 0, at(0, MeshWhy::Head)),
-        (b"OFF\n\n", 0, at(5, MeshWhy::Cut)),
-        (b"OFF\n3\n", 0, at(4, MeshWhy::Words)),
-        (b"OFF 3\n4\n", 0, at(0, MeshWhy::Words)),
-        (b"OFF\nx 1\n", 0, at(4, MeshWhy::Number)),
-        (b"OFF\n-1 1\n", 0, at(4, MeshWhy::Number)),
-        (b"OFF\n16777217\n", 0, too_many(What::Vertices, 16777217)),
-        (b"OFF\n1 16777217\n", 0, too_many(What::Faces, 16777217)),
-        (
-            b"OFF\n16777217 abc\n",
-            0,
-            too_many(What::Vertices, 16777217),
-        ),
-        (
-            b"OFF\n18446744073709551615 0",
-            0,
-            too_many(What::Vertices, u64::MAX),
-        ),
-        (b"OFF\n18446744073709551616 0", 0, at(4, MeshWhy::Number)),
-        (b"OFF\n16777216 16777216\n", 1, at(22, MeshWhy::Cut)),
-        (b"OFF 1 0\n0 1x 2\n", 1, at(8, MeshWhy::Number)),
-        (b"OFF 1 0\n0 1.0 2\n", 1, at(8, MeshWhy::Number)),
-        (
-            b"OFF 2 0\n0 0 0\n0 32768 x\n",
-            2,
-            at(14, MeshWhy::OutOfRange { vertex: 1 }),
-        ),
-        (
-            b"OFF 1 0\n-32769 0 0\n",
-            1,
-            at(8, MeshWhy::OutOfRange { vertex: 0 }),
-        ),
-        (b"OFF 1 0\n0 0\n0\n", 1, at(8, MeshWhy::Words)),
-        (b"OFF 1 0\n# 0 0 0\n", 1, at(8, MeshWhy::Number)),
-        (
-            b"OFF 3 1\n0 0 0\n0 0 1\n0 1 0\n4 0 1 2 x\n",
-            4,
-            at(26, MeshWhy::NotTriangle { face: 0 }),
-        ),
-        (
-            b"OFF 3 1\n0 0 0\n0 0 1\n0 1 0\n3 0 1\n",
-            4,
-            at(26, MeshWhy::Words),
-        ),
-        (
-            b"OFF 3 1\n0 0 0\n0 0 1\n0 1 0\n3 0 9 x\n",
-            4,
-            at(26, MeshWhy::Number),
-        ),
-        (
-            b"OFF 3 1\n0 0 0\n0 0 1\n0 1 0\n3 0 1 3\n",
-            4,
-            at(26, MeshWhy::BadIndex { face: 0 }),
-        ),
-        (
-            b"OFF 3 1\n0 0 0\n0 0 1\n0 1 0\n3 0 -1 2\n",
-            4,
-            at(26, MeshWhy::BadIndex { face: 0 }),
-        ),
-        (
-            b"OFF 3 1\n0 0 0\n0 0 1\n0 1 0\n3 0 0 9\n",
-            4,
-            at(26, MeshWhy::BadIndex { face: 0 }),
-        ),
-        (
-            b"OFF 3 2\n0 0 0\n0 0 1\n0 1 0\n3 0 1 2\n3 0 1 1\n",
-            5,
-            at(34, MeshWhy::Repeated { face: 1 }),
-        ),
-        (
-            b"OFF 3 1\n0 0 0\n0 0 1\n0 1 0\n+3 0 1 2\n",
-            4,
-            at(26, MeshWhy::Number),
-        ),
-    ];
-    for (text, given, fault) in &rows {
-        assert!(rt; text.len() < 200);
-        assert_eq!(rt; outcome(&rt, rt.alloc(), text)?, (*given, *fault));
+    for text in TRIANGLES {
+        for piece in [1, 1000] {
+            let mut reader = reader(rt.alloc(), text, piece, 0)?;
+            for item in &items {
+                assert_eq!(rt; reader.next(), Ok(Some(*item)));
+            }
+            assert!(rt; ends(&mut reader, None));
+        }
     }
     Ok(())
 }
 
-/// Each shorter front of a mesh lacks something, but that which lacks the last line feed alone.
-#[test]
-fn fronts(rt: HostRuntime) -> Result<(), Fail> {
-    for end in 0..TETRAHEDRON.len() {
-        let (front, _) = TETRAHEDRON.split_at(end);
-        assert!(rt; front.len() < 200);
-        let (_, fault) = outcome(&rt, rt.alloc(), front)?;
-        assert_eq!(rt; fault.is_none(), end + 1 == TETRAHEDRON.len());
+/// A word that stands as x of the second vertex, and the coordinate or what is wrong with it.
+struct Coordinate {
+    word: &'static [u8],
+    x: Result<i16, MeshWhy>,
+}
+
+const NOT_INTEGER: MeshWhy = MeshWhy::NotInteger { vertex: 1 };
+
+const OUT_OF_RANGE: MeshWhy = MeshWhy::OutOfRange { vertex: 1 };
+
+const WHOLE: [Coordinate; 11] = [
+    Coordinate {
+        word: b"1.0",
+        x: Ok(1),
+    },
+    Coordinate {
+        word: b"+3.",
+        x: Ok(3),
+    },
+    Coordinate {
+        word: b"-0",
+        x: Ok(0),
+    },
+    Coordinate {
+        word: b"1.",
+        x: Ok(1),
+    },
+    Coordinate {
+        word: b"-32768.000",
+        x: Ok(-32768),
+    },
+    Coordinate {
+        word: b"+32767",
+        x: Ok(32767),
+    },
+    Coordinate {
+        word: b"00000000000000000000000000000000000000000000000012",
+        x: Ok(12),
+    },
+    Coordinate {
+        word: b"32768",
+        x: Err(OUT_OF_RANGE),
+    },
+    Coordinate {
+        word: b"-32769.0",
+        x: Err(OUT_OF_RANGE),
+    },
+    Coordinate {
+        word: b"99999999999999999999999999999999999999999999999999",
+        x: Err(OUT_OF_RANGE),
+    },
+    Coordinate {
+        word: b"-170141183460469231731687303715884105728",
+        x: Err(OUT_OF_RANGE),
+    },
+];
+
+const DECIMAL: [Coordinate; 7] = [
+    Coordinate {
+        word: b"1.5",
+        x: Err(NOT_INTEGER),
+    },
+    Coordinate {
+        word: b"1e3",
+        x: Err(NOT_INTEGER),
+    },
+    Coordinate {
+        word: b".5",
+        x: Err(NOT_INTEGER),
+    },
+    Coordinate {
+        word: b".0",
+        x: Err(NOT_INTEGER),
+    },
+    Coordinate {
+        word: b"-.5E-07",
+        x: Err(NOT_INTEGER),
+    },
+    Coordinate {
+        word: b"+1.e+0",
+        x: Err(NOT_INTEGER),
+    },
+    Coordinate {
+        word: b"99999999999999999999999999999999999999999.1e999999999999999999999999",
+        x: Err(NOT_INTEGER),
+    },
+];
+
+const OTHER: [&[u8]; 14] = [
+    b".",
+    b"e",
+    b"+",
+    b"-.",
+    b"e5",
+    b"1e",
+    b"1e+",
+    b"1.2.3",
+    b"+-1",
+    b"1e1.0",
+    b"nan",
+    b"0x1",
+    b"1\0",
+    b"\xd9\xa1",
+];
+
+/// A mesh of two vertices whose second one has this word as x.
+fn mesh_with(alloc: Global, word: &[u8]) -> Result<Vec<u8>, AllocError> {
+    let mut text = Vec::from_slice(alloc, b"OFF 2 0\n0 0 0\n")?;
+    text.extend_from_slice(word)?;
+    text.extend_from_slice(b" 7 8\n")?;
+    Ok(text)
+}
+
+/// What stands in the place of the second vertex of such a mesh.
+fn second_vertex(
+    alloc: Global,
+    word: &[u8],
+    piece: usize,
+) -> Result<Result<Option<Item>, MeshFault>, AllocError> {
+    let text = mesh_with(alloc, word)?;
+    let mut reader = reader(alloc, text.as_slice(), piece, 0)?;
+    let _ = reader.next();
+    let _ = reader.next();
+    Ok(reader.next())
+}
+
+/// Whether the word is taken as this coordinate, or refused so.
+fn is_taken(alloc: Global, word: &[u8], x: Result<i16, MeshWhy>) -> Result<bool, AllocError> {
+    let wanted = match x {
+        Ok(x) => Ok(Some(Item::Vertex(Point { x, y: 7, z: 8 }))),
+        Err(why) => Err(MeshFault::Text { at: 14, why }),
+    };
+    Ok(second_vertex(alloc, word, 1)? == wanted && second_vertex(alloc, word, 1000)? == wanted)
+}
+
+/// Which of these words isn't taken so.
+fn first_mistaken(alloc: Global, words: &[Coordinate]) -> Result<Option<usize>, AllocError> {
+    for (i, row) in words.iter().enumerate() {
+        if !is_taken(alloc, row.word, row.x)? {
+            return Ok(Some(i));
+        }
     }
+    Ok(None)
+}
+
+#[test]
+fn whole_coordinates(rt: HostRuntime) {
+    assert_eq!(rt; first_mistaken(rt.alloc(), &WHOLE), Ok(None));
+}
+
+#[test]
+fn decimal_coordinates(rt: HostRuntime) {
+    assert_eq!(rt; first_mistaken(rt.alloc(), &DECIMAL), Ok(None));
+}
+
+#[test]
+fn other_words(rt: HostRuntime) -> Result<(), Fail> {
+    for word in OTHER {
+        assert!(rt; is_taken(rt.alloc(), word, Err(MeshWhy::Number))?);
+    }
+    Ok(())
+}
+
+/// A line that stands as the second face of three vertices, and what is wrong with it.
+const FACES: [(&[u8], MeshWhy); 12] = [
+    (b"4 0 1 2 x", MeshWhy::NotTriangle { face: 1 }),
+    (b"18446744073709551616 0", MeshWhy::NotTriangle { face: 1 }),
+    (b"+3 0 1 2", MeshWhy::Number),
+    (b"3.0 0 1 2", MeshWhy::Number),
+    (b"3 0 1", MeshWhy::Words),
+    (b"3 0 9 x", MeshWhy::Number),
+    (b"3 0 9", MeshWhy::Words),
+    (b"3 0 1.0 2", MeshWhy::Number),
+    (b"3 0 1 3", MeshWhy::BadIndex { face: 1 }),
+    (b"3 0 -1 2", MeshWhy::BadIndex { face: 1 }),
+    (b"3 0 0 9", MeshWhy::BadIndex { face: 1 }),
+    (b"3 0 1 +1", MeshWhy::Repeated { face: 1 }),
+];
+
+/// The fault of three vertices, a face and this line.
+fn fault_of_face(
+    alloc: Global,
+    line: &[u8],
+    piece: usize,
+) -> Result<Option<MeshFault>, AllocError> {
+    let mut text = Vec::from_slice(alloc, b"OFF 3 2\n0 0 0\n1 0 0\n0 1 0\n3 2 0 1\n")?;
+    text.extend_from_slice(line)?;
+    let mut reader = reader(alloc, text.as_slice(), piece, 0)?;
+    for _ in 0..5 {
+        let _ = reader.next();
+    }
+    Ok(reader.next().err())
+}
+
+#[test]
+fn faces(rt: HostRuntime) -> Result<(), Fail> {
+    for (line, why) in FACES {
+        let fault = Some(MeshFault::Text { at: 34, why });
+        assert_eq!(rt; fault_of_face(rt.alloc(), line, 1)?, fault);
+        assert_eq!(rt; fault_of_face(rt.alloc(), line, 1000)?, fault);
+    }
+    Ok(())
+}
+
+#[test]
+fn a_source_that_fails(rt: HostRuntime) -> Result<(), Fail> {
+    let mut reader = reader(rt.alloc(), b"OFF 1 0\n1 -2 3\n", 1, 2)?;
+    assert!(rt; ends(&mut reader, Some(MeshFault::Read)));
+    assert!(rt; ends(&mut reader, Some(MeshFault::Read)));
+    Ok(())
+}
+
+#[test]
+fn a_source_that_fails_in_a_vertex(rt: HostRuntime) -> Result<(), Fail> {
+    let mut reader = reader(rt.alloc(), b"OFF 1 0\n1 -2 3\n", 1, 12)?;
+    assert!(rt; gives(&mut reader, 1));
+    assert!(rt; ends(&mut reader, Some(MeshFault::Read)));
+    assert!(rt; ends(&mut reader, Some(MeshFault::Read)));
+    Ok(())
+}
+
+/// The byte that the source gives next.
+fn next_byte(mut source: MemSource) -> Option<u8> {
+    let mut buf = [0u8; 1];
+    match source.take(&mut buf) {
+        Ok(1) => Some(buf[0]),
+        _ => None,
+    }
+}
+
+#[test]
+fn nothing_behind_the_last_face_is_taken(rt: HostRuntime) -> Result<(), Fail> {
+    let mut reader = reader(rt.alloc(), b"OFF 1 0\n1 -2 3\nrest", 1, 0)?;
+    assert!(rt; gives(&mut reader, 2));
+    assert!(rt; ends(&mut reader, None));
+    assert_eq!(rt; next_byte(reader.into_source()), Some(b'r'));
+    Ok(())
+}
+
+#[test]
+fn a_long_line(rt: HostRuntime) -> Result<(), Fail> {
+    let mut text = Vec::from_slice(rt.alloc(), b"OFF\n")?;
+    let blanks = vec![in rt.alloc(); b' '; 65537]?;
+    text.extend_from_slice(blanks.as_slice())?;
+    let fault = Some(MeshFault::TooMany {
+        what: What::LineBytes,
+        count: 65537,
+    });
+    let mut reader = reader(rt.alloc(), text.as_slice(), 1000, 0)?;
+    assert!(rt; ends(&mut reader, fault));
+    assert!(rt; ends(&mut reader, fault));
     Ok(())
 }
