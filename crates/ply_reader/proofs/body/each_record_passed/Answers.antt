@@ -1,0 +1,20 @@
+use Rattle.std.proofs.Common.{◌∙◌, sym, arith, ◌-◌, ◌+◌}
+use Rattle.ply_reader.proofs.StepLaws.{passes_failed, fails_same}
+use Rattle.ply_reader.proofs.BodyLaws.{records_next, records_stop, records_done}
+use Rattle.ply_reader.proofs.body.each_record_passed.Goals as goal
+
+pub returns-in_err-record_passed-clause-passes : goal.returns-in_err-record_passed-clause-passes
+returns-in_err-record_passed-clause-passes g c =
+    passes_failed _ _ _ _ _ c.from_residual.ensures.1
+    (fails_same _ _ _ _ _ c.in_err-record_passed.field-0.0 c.loop.invariant.same
+    (records_stop c.args.order c.args.properties.now (c.args.count - c.loop.counter) (c.args.count - (c.loop.counter + 1)) _ _ _ (omega arith) c.in_err-record_passed.ensures.passes))
+
+pub loop-preserved : goal.loop-preserved
+loop-preserved g c = record {
+  same = records_next c.args.order c.args.properties.now (c.args.count - c.loop.counter) (c.args.count - (c.loop.counter + 1)) _ _ (omega arith) c.in_ok-record_passed.ensures.passes ∙ c.loop.invariant.same;
+  open_still = c.in_ok-record_passed.ensures.open;
+  kept = omega (arith, c.loop.invariant.kept, c.in_ok-record_passed.ensures.kept);
+}
+
+pub returns-clause-passes : goal.returns-clause-passes
+returns-clause-passes g c = sym c.loop.invariant.same ∙ records_done c.args.order c.args.properties.now (c.args.count - c.loop.counter) _ (omega arith)

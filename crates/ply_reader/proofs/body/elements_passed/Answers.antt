@@ -1,0 +1,20 @@
+use Rattle.std.proofs.Common.{◌∙◌, sym, arith}
+use Rattle.ply_reader.proofs.StepLaws.{passes_failed, fails_same}
+use Rattle.ply_reader.proofs.BodyLaws.{elements_next, elements_stop, elements_done}
+use Rattle.ply_reader.proofs.body.elements_passed.Goals as goal
+
+pub returns-in_err-records_passed-clause-passes : goal.returns-in_err-records_passed-clause-passes
+returns-in_err-records_passed-clause-passes g c =
+    passes_failed _ _ _ _ _ c.from_residual.ensures.1
+    (fails_same _ _ _ _ _ c.in_err-records_passed.field-0.0 c.loop-element.invariant.same
+    (elements_stop c.args.order c.args.elements.now c.loop-element.element-index _ _ _ _ c.loop-element-test.true (rw c.element-item.is at c.in_err-records_passed.ensures.passes)))
+
+pub loop-element-preserved : goal.loop-element-preserved
+loop-element-preserved g c = record {
+  same = elements_next c.args.order c.args.elements.now c.loop-element.element-index _ _ _ c.loop-element-test.true (rw c.element-item.is at c.in_ok-records_passed.ensures.passes) ∙ c.loop-element.invariant.same;
+  open_still = c.in_ok-records_passed.ensures.open;
+  kept = omega (arith, c.loop-element.invariant.kept, c.in_ok-records_passed.ensures.kept);
+}
+
+pub returns-clause-passes : goal.returns-clause-passes
+returns-clause-passes g c = sym c.loop-element.invariant.same ∙ elements_done c.args.order c.args.elements.now c.loop-element.element-index _ (omega arith)

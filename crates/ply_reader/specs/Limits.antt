@@ -1,0 +1,24 @@
+-- Counts of vertices and faces that keep their limits.
+use Rattle.std.specs.Prelude.{ℕ, ◌≤◌, IfSome, ⊤}
+use Rattle.mesh_data.specs.Reading.{most_items}
+use Rattle.ply_reader.specs.declared.layout.Role.{Role}
+use Rattle.ply_reader.specs.declared.layout.Role.TheVariants.{Vertices, Faces, Foreign}
+use Rattle.ply_reader.specs.declared.layout.Layout.{Layout}
+use Rattle.ply_reader.specs.declared.layout.Header.{Header}
+
+-- so many records of this role may be
+abbrev pub HasFew : Role → ℕ → Type 0
+HasFew Vertices n = n ≤ most_items
+HasFew Faces n = n ≤ most_items
+HasFew Foreign n = ⊤
+
+-- the vertices and faces whose properties are all declared are few enough
+abbrev pub IsStored : Header → Type 0
+IsStored h = IfSome h.vertex (λ e. e.count ≤ most_items) × IfSome h.face (λ e. e.count ≤ most_items)
+
+-- and those of the last element
+abbrev pub IsLimited : Header → Type 0
+IsLimited h = IfSome h.last (λ e. HasFew e.role e.count) × IsStored h
+
+abbrev pub IsLaidOut : Layout → Type 0
+IsLaidOut l = (l.vertex.count ≤ most_items) × (l.face.count ≤ most_items)

@@ -1,0 +1,197 @@
+//! The lines of a header that declare an element.
+
+ghost use Rattle.std.specs.Prelude.{◌≡◌, ◌∷◌, ◌++◌, [], IfOk, IfErr};
+ghost use Rattle.oemm_lines.specs.Words.{words_of};
+ghost use Rattle.ply_reader.specs.Results.{Answers, IsOfText};
+ghost use Rattle.ply_reader.specs.Header as grammar;
+ghost use Rattle.ply_reader.specs.Limits.{HasFew, IsLimited, IsStored};
+
+use super::faults::fault_at;
+use super::layout::{Element, Header, Properties, Role};
+use super::names::role_named;
+use super::properties::at_line_end;
+use mesh_data::{List, MeshFault, MeshWhy, What};
+use oemm_lines::{next_word, whole};
+use std::alloc::Global;
+
+/// The greatest count of vertices and of faces.
+const MOST_ITEMS: u64 = 1 << 24;
+
+/// The list with an item more.
+pub fn pushed<T: Drop>(mut list: List<T>, item: T) -> Result<List<T>, MeshFault>
+    ensures ok { IfOk result (λ longer. longer ≡ list ++ item ∷ []) }
+    ensures err { IfErr result (λ fault. fault ≡ MeshFault.Memory) }
+{
+    match list.push(item) {
+        Ok(()) => Ok(list),
+        Err(_) => Err(MeshFault::Memory),
+    }
+}
+
+/// The header with this element put where it stands: behind the faces nothing is kept.
+fn placed(header: Header, element: Element) -> Result<Header, MeshFault>
+    requires few { HasFew element.role element.count }
+    requires stored { IsStored header }
+    ensures ok { IfOk result (λ done. done ≡ grammar.placed_element element element.role header) }
+    ensures few { IfOk result IsLimited }
+    ensures err { IfErr result (λ fault. fault ≡ MeshFault.Memory) }
+{
+    match element.role {
+        Role::Vertices => Ok(Header {
+            vertex: Some(element),
+            last: None,
+            ..header
+        }),
+        Role::Faces => Ok(Header {
+            face: Some(element),
+            last: None,
+            ..header
+        }),
+        Role::Foreign => placed_foreign(header, element),
+    }
+}
+
+/// The header with this foreign element put where it stands.
+fn placed_foreign(header: Header, element: Element) -> Result<Header, MeshFault>
+    requires { IsStored header }
+    ensures ok { IfOk result (λ done. done ≡ grammar.placed_element element Role.Foreign header) }
+    ensures few { IfOk result IsLimited }
+    ensures err { IfErr result (λ fault. fault ≡ MeshFault.Memory) }
+{
+    if header.vertex.is_none() {
+        let before = pushed(header.before, element)?;
+        return Ok(Header {
+            before,
+            last: None,
+            ..header
+        });
+    }
+    if header.face.is_none() {
+        let between = pushed(header.between, element)?;
+        return Ok(Header {
+            between,
+            last: None,
+            ..header
+        });
+    }
+    Ok(Header {
+        last: None,
+        ..header
+    })
+}
+
+/// The header with its last element put where it stands, so that another can follow.
+pub fn closed(mut header: Header) -> Result<Header, MeshFault>
+    requires { IsLimited header }
+    ensures ok { IfOk result (λ done. done ≡ grammar.closed header) }
+    ensures few { IfOk result IsLimited }
+    ensures err { IfErr result (λ fault. fault ≡ MeshFault.Memory) }
+{
+    match header.last.take() {
+        None => Ok(header),
+        Some(element) => placed(header, element),
+    }
+}
+
+/// What is wrong with an element of this role behind the elements of a header.
+fn role_fault(role: Role, header: &Header) -> Option<MeshWhy>
+    ensures { result ≡ grammar.role_fault role header.now }
+{
+    match role {
+        Role::Vertices => {
+            if header.vertex.is_some() {
+                Some(MeshWhy::Twice)
+            } else {
+                None
+            }
+        }
+        Role::Faces => {
+            if header.face.is_some() {
+                Some(MeshWhy::Twice)
+            } else if header.vertex.is_none() {
+                Some(MeshWhy::FaceFirst)
+            } else {
+                None
+            }
+        }
+        Role::Foreign => None,
+    }
+}
+
+/// A count of so many records.
+fn limited(at: u64, role: Role, count: u64) -> Result<u64, MeshFault>
+    ensures exact { result ≡ grammar.limited at role count }
+    ensures few { IfOk result (HasFew role) }
+    ensures fault { IfErr result IsOfText }
+{
+    let what = match role {
+        Role::Vertices => What::Vertices,
+        Role::Faces => What::Faces,
+        Role::Foreign => return Ok(count),
+    };
+    if count > MOST_ITEMS {
+        return Err(MeshFault::TooMany { what, count });
+    }
+    Ok(count)
+}
+
+/// The count of records that a word writes.
+#[tactic(auto, unfolding(crate::specs::Header::count_of))]
+fn count_of(at: u64, role: Role, word: &[u8]) -> Result<u64, MeshFault>
+    ensures exact { result ≡ grammar.count_of at role word.now }
+    ensures few { IfOk result (HasFew role) }
+    ensures fault { IfErr result IsOfText }
+{
+    let Some(number) = whole(word) else {
+        return Err(fault_at(at, MeshWhy::HeadLine));
+    };
+    let Ok(count) = u64::try_from(number) else {
+        return Err(fault_at(at, MeshWhy::Number));
+    };
+    limited(at, role, count)
+}
+
+/// The count of records, behind which no further word stands.
+fn last_count_of(at: u64, role: Role, text: &[u8]) -> Result<u64, MeshFault>
+    ensures exact { result ≡ grammar.last_count_of at role (words_of text.now) }
+    ensures few { IfOk result (HasFew role) }
+    ensures fault { IfErr result IsOfText }
+{
+    let Some((word, rest)) = next_word(text) else {
+        return Err(fault_at(at, MeshWhy::HeadLine));
+    };
+    let count = count_of(at, role, word)?;
+    at_line_end(at, count, rest)
+}
+
+/// The header with a further element, by the words behind the first of its line.
+#[tactic(auto, using(crate::proofs::ResultLaws::answers_exact), unfolding(crate::specs::Header::with_element))]
+pub fn with_element(
+    alloc: Global,
+    header: Header,
+    at: u64,
+    text: &[u8],
+) -> Result<Header, MeshFault>
+    requires { IsLimited header }
+    ensures answers { Answers (grammar.with_element header at (words_of text.now)) result }
+    ensures few { IfOk result IsLimited }
+{
+    let Some((name, rest)) = next_word(text) else {
+        return Err(fault_at(at, MeshWhy::HeadLine));
+    };
+    let role = role_named(name);
+    let header = closed(header)?;
+    if let Some(why) = role_fault(role, &header) {
+        return Err(fault_at(at, why));
+    }
+    let count = last_count_of(at, role, rest)?;
+    let properties = Properties::new(alloc);
+    Ok(Header {
+        last: Some(Element {
+            role,
+            count,
+            properties,
+        }),
+        ..header
+    })
+}

@@ -1,0 +1,226 @@
+//! The lines of a header.
+
+ghost use Rattle.std.specs.Prelude.{◌≡◌, IfOk, IfErr};
+ghost use Rattle.oemm_lines.specs.Words.{words_of};
+ghost use Rattle.ply_reader.specs.Results.{Answers, IsOfText};
+ghost use Rattle.ply_reader.specs.Header as grammar;
+ghost use Rattle.ply_reader.specs.Limits.{IsLaidOut, IsLimited};
+
+use super::elements::{closed, pushed, with_element};
+use super::faults::fault_at;
+use super::layout::{Axis, Element, Elements, Header, Layout, Order, Property};
+use super::names::is_either;
+use super::properties::{at_line_end, has_axis, has_corners, property_of};
+use mesh_data::{ElementKind, MeshFault, MeshWhy};
+use oemm_lines::next_word;
+use std::alloc::Global;
+
+/// Nothing was declared yet.
+pub fn nothing_declared(alloc: Global) -> Header
+    ensures nothing { result ≡ grammar.nothing_declared }
+    ensures few { IsLimited result }
+{
+    Header {
+        order: None,
+        before: Elements::new(alloc),
+        vertex: None,
+        between: Elements::new(alloc),
+        face: None,
+        last: None,
+    }
+}
+
+/// The order that the words of the format say.
+#[tactic(auto, unfolding(crate::specs::Header::order_of))]
+fn order_of(at: u64, name: &[u8]) -> Result<Order, MeshFault>
+    ensures exact { result ≡ grammar.order_of at name.now }
+    ensures fault { IfErr result IsOfText }
+{
+    if name == b"binary_little_endian".as_slice() {
+        return Ok(Order::Little);
+    }
+    if name == b"binary_big_endian".as_slice() {
+        return Ok(Order::Big);
+    }
+    if name == b"ascii".as_slice() {
+        return Err(fault_at(at, MeshWhy::Ascii));
+    }
+    Err(fault_at(at, MeshWhy::HeadLine))
+}
+
+/// The order of a line of the format.
+fn format_of(at: u64, text: &[u8]) -> Result<Order, MeshFault>
+    ensures exact { result ≡ grammar.format_of at (words_of text.now) }
+    ensures fault { IfErr result IsOfText }
+{
+    let fault = fault_at(at, MeshWhy::HeadLine);
+    let (first, rest) = next_word(text).ok_or(fault)?;
+    let (name, rest) = next_word(rest).ok_or(fault)?;
+    let (version, rest) = next_word(rest).ok_or(fault)?;
+    if next_word(rest).is_some() {
+        return Err(fault);
+    }
+    if first == b"format".as_slice() && version == b"1.0".as_slice() {
+        return order_of(at, name);
+    }
+    Err(fault)
+}
+
+/// The element with a property more.
+fn with_last(element: Element, property: Property) -> Result<Element, MeshFault>
+    ensures ok { IfOk result (λ longer. longer ≡ grammar.longer element property) }
+    ensures err { IfErr result (λ fault. fault ≡ MeshFault.Memory) }
+{
+    let Element {
+        role,
+        count,
+        properties,
+    } = element;
+    let properties = pushed(properties, property)?;
+    Ok(Element {
+        role,
+        count,
+        properties,
+    })
+}
+
+/// The header with a further property of its last element.
+#[tactic(auto, using(crate::proofs::ResultLaws::answers_exact), unfolding(crate::specs::Header::with_property))]
+fn with_property(mut header: Header, at: u64, text: &[u8]) -> Result<Header, MeshFault>
+    requires { IsLimited header }
+    ensures answers { Answers (grammar.with_property header at (words_of text.now)) result }
+    ensures few { IfOk result IsLimited }
+{
+    let Some(element) = header.last.take() else {
+        return Err(fault_at(at, MeshWhy::HeadLine));
+    };
+    let property = property_of(at, &element, text)?;
+    let element = with_last(element, property)?;
+    Ok(Header {
+        last: Some(element),
+        ..header
+    })
+}
+
+/// The header behind a line whose first word is this one, where the format is known.
+#[tactic(auto, using(crate::proofs::ResultLaws::answers_exact), unfolding(crate::specs::Header::declared_by))]
+fn declared_by(
+    alloc: Global,
+    header: Header,
+    at: u64,
+    word: &[u8],
+    rest: &[u8],
+) -> Result<Header, MeshFault>
+    requires { IsLimited header }
+    ensures answers { Answers (grammar.declared_by header at word.now (words_of rest.now)) result }
+    ensures few { IfOk result IsLimited }
+{
+    if word == b"element".as_slice() {
+        return with_element(alloc, header, at, rest);
+    }
+    if word == b"property".as_slice() {
+        return with_property(header, at, rest);
+    }
+    Err(fault_at(at, MeshWhy::HeadLine))
+}
+
+/// The header behind a line that doesn't end it.
+#[tactic(auto, using(crate::proofs::ResultLaws::answers_exact), unfolding(crate::specs::Header::header_after))]
+pub fn header_after(
+    alloc: Global,
+    header: Header,
+    at: u64,
+    text: &[u8],
+) -> Result<Header, MeshFault>
+    requires { IsLimited header }
+    ensures answers { Answers (grammar.header_after header at (words_of text.now)) result }
+    ensures few { IfOk result IsLimited }
+{
+    let Some((word, rest)) = next_word(text) else {
+        return Ok(header);
+    };
+    if is_either(word, b"comment", b"obj_info") {
+        return Ok(header);
+    }
+    if header.order.is_none() {
+        let order = format_of(at, text)?;
+        return Ok(Header {
+            order: Some(order),
+            ..header
+        });
+    }
+    declared_by(alloc, header, at, word, rest)
+}
+
+/// Whether the line ends the header.
+pub fn ends(header: &Header, text: &[u8]) -> bool
+    ensures { result ≡ grammar.ends header.now (words_of text.now) }
+{
+    match next_word(text) {
+        Some((word, _)) => header.order.is_some() && word == b"end_header".as_slice(),
+        None => false,
+    }
+}
+
+/// What is missing of a vertex and of a face with these properties.
+#[tactic(auto, unfolding(crate::specs::Header::missing))]
+fn missing(vertex: &[Property], face: &[Property]) -> Option<MeshWhy>
+    ensures { result ≡ grammar.missing vertex.now face.now }
+{
+    if !has_axis(Axis::X, vertex) {
+        Some(MeshWhy::NoProperty { which: 0 })
+    } else if !has_axis(Axis::Y, vertex) {
+        Some(MeshWhy::NoProperty { which: 1 })
+    } else if !has_axis(Axis::Z, vertex) {
+        Some(MeshWhy::NoProperty { which: 2 })
+    } else if !has_corners(face) {
+        Some(MeshWhy::NoProperty { which: 3 })
+    } else {
+        None
+    }
+}
+
+/// The fault of a header that ends without this element.
+fn no_element(at: u64, which: ElementKind) -> MeshFault
+    ensures { result ≡ MeshFault.Text at (MeshWhy.NoElement which) }
+{
+    fault_at(at, MeshWhy::NoElement { which })
+}
+
+/// The layout that a header declares, of which no element is open.
+#[tactic(auto, unfolding(crate::specs::Header::laid_out))]
+fn laid_out(at: u64, header: Header) -> Result<Layout, MeshFault>
+    requires { IsLimited header }
+    ensures exact { result ≡ grammar.laid_out at header }
+    ensures few { IfOk result IsLaidOut }
+    ensures fault { IfErr result IsOfText }
+{
+    let order = header.order.ok_or(fault_at(at, MeshWhy::HeadLine))?;
+    let vertex = header.vertex.ok_or(no_element(at, ElementKind::Vertex))?;
+    let face = header.face.ok_or(no_element(at, ElementKind::Face))?;
+    if let Some(why) = missing(vertex.properties.slice(), face.properties.slice()) {
+        return Err(fault_at(at, why));
+    }
+    Ok(Layout {
+        order,
+        before: header.before,
+        vertex,
+        between: header.between,
+        face,
+    })
+}
+
+/// The layout at the line that ends the header.
+#[tactic(auto, using(crate::proofs::ResultLaws::answers_exact))]
+pub fn layout_of(header: Header, at: u64, text: &[u8]) -> Result<Layout, MeshFault>
+    requires { IsLimited header }
+    ensures answers { Answers (grammar.layout_of header at (words_of text.now)) result }
+    ensures few { IfOk result IsLaidOut }
+{
+    let Some((_, rest)) = next_word(text) else {
+        return Err(fault_at(at, MeshWhy::HeadLine));
+    };
+    let header = closed(header)?;
+    let layout = laid_out(at, header)?;
+    at_line_end(at, layout, rest)
+}

@@ -1,0 +1,121 @@
+use super::feed::Feed;
+use super::items::item_after;
+use super::layout::Layout;
+use super::start::read_header;
+use mesh_data::{Item, Items, MeshFault};
+use oemm_io::Source;
+use oemm_lines::Lines;
+use std::marker::Model;
+
+/// A reader of a binary PLY mesh of either byte order, over the lines of its source.
+///
+/// Contracts see it as how far it has come: what it has given, and what it has left to give.
+#[derive(Drop)]
+pub struct PlyReader<S> {
+    feed: Feed<S>,
+    /// The layout, once the header was read.
+    layout: Option<Layout>,
+    /// How many vertices and faces were given.
+    done: u64,
+    /// The fault that was answered.
+    fault: Option<MeshFault>,
+}
+
+impl<S> Model for PlyReader<S> {
+    ghost use Rattle.ply_reader.specs.Reader.{IsReadyBy, Progress};
+
+    ghost Value = { Progress S };
+
+    ghost view = { λ a. record { feed = a.feed; layout = a.layout; done = a.done; fault = a.fault } };
+
+    ghost invariant = { λ a. IsReadyBy a.fault a.layout a.done a.feed };
+}
+
+impl<S: Source> PlyReader<S> {
+    ghost use Rattle.std.specs.Prelude.{◌≡◌, ◌⊎◌, ◌≤◌, None, Err, IfErr, IsErrOf};
+    ghost use Rattle.std.specs.Option.{option_map};
+    ghost use Rattle.fault_counts.specs.Counts.{Rose};
+    ghost use Rattle.mesh_data.specs.Reading.{nothing_given, Steps, Reads};
+    ghost use Rattle.oemm_lines.specs.Stream.{left_of};
+    ghost use Rattle.ply_reader.specs.Mesh.{ply_reading};
+    ghost use Rattle.ply_reader.specs.Reader.{given_of, reading_of, source_of, Ends, IsFresh};
+
+    /// A reader of all that the source says. No line was read yet, the budget is 2^33 bytes, and there are no comments.
+    pub fn new(lines: Lines<S>) -> PlyReader<S>
+        requires { IsFresh lines }
+        ensures source { source_of result ≡ lines.source }
+        ensures given { given_of result ≡ nothing_given }
+        ensures reading { reading_of S.left result ≡ option_map ply_reading (S.left lines.source) }
+    {
+        PlyReader {
+            feed: Feed::new(lines),
+            layout: None,
+            done: 0,
+            fault: None,
+        }
+    }
+
+    /// The source. The bytes that were taken and not yet read are lost.
+    pub fn into_source(self) -> S
+        ensures { result ≡ source_of self }
+    {
+        let PlyReader { feed, .. } = self;
+        feed.into_source()
+    }
+
+    /// The counts, where no fault was answered and the header wasn't read yet.
+    fn begin(&mut self) -> Result<Option<Item>, MeshFault>
+        requires calm { self.old.fault ≡ None }
+        requires first { self.old.layout ≡ None }
+        ensures given { Steps (given_of self.old) result (given_of self.new) }
+        ensures told { Reads (reading_of S.left self.old) result (reading_of S.left self.new) }
+        ensures kept { S.faults (source_of self.old) ≤ S.faults (source_of self.new) }
+        ensures read { IsErrOf result MeshFault.Read → Rose (S.faults (source_of self.old)) (S.faults (source_of self.new)) }
+    {
+        match read_header(&mut self.feed) {
+            Ok(layout) => {
+                let v = layout.vertex.count as u32;
+                let f = layout.face.count as u32;
+                self.layout = Some(layout);
+                Ok(Some(Item::Counts { v, f }))
+            }
+            Err(fault) => {
+                self.fault = Some(fault);
+                Err(fault)
+            }
+        }
+    }
+}
+
+impl<S: Source> Items for PlyReader<S> {
+    ghost use Rattle.std.specs.Prelude.{◌≡◌, ◌⊎◌, ◌≤◌, Some, Err, IsErrOf};
+    ghost use Rattle.fault_counts.specs.Counts.{Rose};
+    ghost use Rattle.mesh_data.specs.Reading.{Steps, Reads};
+    ghost use Rattle.ply_reader.specs.Reader.{given_of, reading_of, source_of};
+
+    ghost given = { λ a. given_of a };
+
+    ghost reading = { λ a. reading_of S.left a };
+
+    ghost faults = { λ a. S.faults (source_of a) };
+
+    fn next(&mut self) -> Result<Option<Item>, MeshFault> {
+        if let Some(fault) = self.fault {
+            return Err(fault);
+        }
+        let Some(layout) = &self.layout else {
+            return self.begin();
+        };
+        match item_after(&mut self.feed, layout, self.done) {
+            Ok(Some(item)) => {
+                self.done += 1;
+                Ok(Some(item))
+            }
+            Ok(None) => Ok(None),
+            Err(fault) => {
+                self.fault = Some(fault);
+                Err(fault)
+            }
+        }
+    }
+}

@@ -1,0 +1,586 @@
+//! Meshes from sources that give one byte at a take, and all.
+
+use super::{PlyReader, is_ply};
+use mesh_data::{ElementKind, Item, Items, MeshFault, MeshWhy, Name, Point, Tri, What};
+use oemm_io::{MemSource, Source};
+use oemm_lines::Lines;
+use std::alloc::{AllocError, Global};
+use std::test::Fail;
+
+/// How many items a file gives, and the fault behind them or the end.
+struct Case {
+    text: &'static [u8],
+    given: usize,
+    fault: Option<MeshFault>,
+}
+
+/// How many bytes of a mesh are looked at.
+const BUDGET: u64 = 1 << 33;
+
+const FIRST_LINES: [Case; 9] = [
+    Case {
+        text: b"",
+        given: 0,
+        fault: Some(MeshFault::Text {
+            at: 0,
+            why: MeshWhy::Cut,
+        }),
+    },
+    Case {
+        text: b"plyx\n",
+        given: 0,
+        fault: Some(MeshFault::Text {
+            at: 0,
+            why: MeshWhy::Head,
+        }),
+    },
+    Case {
+        text: b"\nply\n",
+        given: 0,
+        fault: Some(MeshFault::Text {
+            at: 0,
+            why: MeshWhy::Head,
+        }),
+    },
+    Case {
+        text: b"ply",
+        given: 0,
+        fault: Some(MeshFault::Text {
+            at: 3,
+            why: MeshWhy::Cut,
+        }),
+    },
+    Case {
+        text: b"ply \t\r\nformat ascii 1.0\n",
+        given: 0,
+        fault: Some(MeshFault::Text {
+            at: 7,
+            why: MeshWhy::Ascii,
+        }),
+    },
+    Case {
+        text: b"ply\nformat ascii 1.1\n",
+        given: 0,
+        fault: Some(MeshFault::Text {
+            at: 4,
+            why: MeshWhy::HeadLine,
+        }),
+    },
+    Case {
+        text: b"ply\nformat binary_little_endian 1.0\n\nformat binary_little_endian 1.0\n",
+        given: 0,
+        fault: Some(MeshFault::Text {
+            at: 37,
+            why: MeshWhy::HeadLine,
+        }),
+    },
+    Case {
+        text: b"ply\ncomment end_header\nelement vertex 1\n",
+        given: 0,
+        fault: Some(MeshFault::Text {
+            at: 23,
+            why: MeshWhy::HeadLine,
+        }),
+    },
+    Case {
+        text: b"ply\nformat binary_little_endian 1.0\nend_headers\n",
+        given: 0,
+        fault: Some(MeshFault::Text {
+            at: 36,
+            why: MeshWhy::HeadLine,
+        }),
+    },
+];
+
+const ELEMENTS: [Case; 8] = [
+    Case {
+        text: b"ply\nformat binary_little_endian 1.0\nproperty int x\n",
+        given: 0,
+        fault: Some(MeshFault::Text {
+            at: 36,
+            why: MeshWhy::HeadLine,
+        }),
+    },
+    Case {
+        text: b"ply\nformat binary_little_endian 1.0\nelement face\n",
+        given: 0,
+        fault: Some(MeshFault::Text {
+            at: 36,
+            why: MeshWhy::FaceFirst,
+        }),
+    },
+    Case {
+        text: b"ply\nformat binary_little_endian 1.0\nelement vertex 1\nobj_info\nelement vertex 1\n",
+        given: 0,
+        fault: Some(MeshFault::Text {
+            at: 62,
+            why: MeshWhy::Twice,
+        }),
+    },
+    Case {
+        text: b"ply\nformat binary_little_endian 1.0\nelement vertex x\n",
+        given: 0,
+        fault: Some(MeshFault::Text {
+            at: 36,
+            why: MeshWhy::HeadLine,
+        }),
+    },
+    Case {
+        text: b"ply\nformat binary_little_endian 1.0\nelement vertex 16777217 x\n",
+        given: 0,
+        fault: Some(MeshFault::TooMany {
+            what: What::Vertices,
+            count: 16777217,
+        }),
+    },
+    Case {
+        text: b"ply\nformat binary_little_endian 1.0\nelement vertex 1\nelement face 16777217\n",
+        given: 0,
+        fault: Some(MeshFault::TooMany {
+            what: What::Faces,
+            count: 16777217,
+        }),
+    },
+    Case {
+        text: b"ply\nformat binary_little_endian 1.0\nelement vertex 18446744073709551616\n",
+        given: 0,
+        fault: Some(MeshFault::Text {
+            at: 36,
+            why: MeshWhy::Number,
+        }),
+    },
+    Case {
+        text: b"ply\nformat binary_little_endian 1.0\nelement other 1 x\n",
+        given: 0,
+        fault: Some(MeshFault::Text {
+            at: 36,
+            why: MeshWhy::HeadLine,
+        }),
+    },
+];
+
+const PROPERTIES: [Case; 9] = [
+    Case {
+        text: b"ply\nformat binary_little_endian 1.0\nelement vertex 1\nproperty int x\nproperty list uchar float x\n",
+        given: 0,
+        fault: Some(MeshFault::Text {
+            at: 68,
+            why: MeshWhy::Twice,
+        }),
+    },
+    Case {
+        text: b"ply\nformat binary_little_endian 1.0\nelement vertex 1\nproperty int x\nproperty float x\n",
+        given: 0,
+        fault: Some(MeshFault::Text {
+            at: 68,
+            why: MeshWhy::Twice,
+        }),
+    },
+    Case {
+        text: b"ply\nformat binary_little_endian 1.0\nelement vertex 1\nproperty list uchar float x\n",
+        given: 0,
+        fault: Some(MeshFault::Text {
+            at: 53,
+            why: MeshWhy::Kind,
+        }),
+    },
+    Case {
+        text: b"ply\nformat binary_little_endian 1.0\nelement vertex 1\nproperty double z x\n",
+        given: 0,
+        fault: Some(MeshFault::Text {
+            at: 53,
+            why: MeshWhy::FloatCoordinate,
+        }),
+    },
+    Case {
+        text: b"ply\nformat binary_little_endian 1.0\nelement vertex 1\nelement face 1\nproperty int vertex_index\n",
+        given: 0,
+        fault: Some(MeshFault::Text {
+            at: 68,
+            why: MeshWhy::Kind,
+        }),
+    },
+    Case {
+        text: b"ply\nformat binary_little_endian 1.0\nelement vertex 1\nelement face 1\nproperty list uchar float32 vertex_index\n",
+        given: 0,
+        fault: Some(MeshFault::Text {
+            at: 68,
+            why: MeshWhy::Kind,
+        }),
+    },
+    Case {
+        text: b"ply\nformat binary_little_endian 1.0\nelement vertex 1\nelement face 1\nproperty list uchar int vertex_indices\nproperty list uchar int vertex_index\n",
+        given: 0,
+        fault: Some(MeshFault::Text {
+            at: 107,
+            why: MeshWhy::Twice,
+        }),
+    },
+    Case {
+        text: b"ply\nformat binary_little_endian 1.0\nelement vertex 1\nelement face 1\nproperty list float int vertex_index\n",
+        given: 0,
+        fault: Some(MeshFault::Text {
+            at: 68,
+            why: MeshWhy::HeadLine,
+        }),
+    },
+    Case {
+        text: b"ply\nformat binary_little_endian 1.0\nelement vertex 1\nproperty quad x\n",
+        given: 0,
+        fault: Some(MeshFault::Text {
+            at: 53,
+            why: MeshWhy::HeadLine,
+        }),
+    },
+];
+
+const ENDS: [Case; 7] = [
+    Case {
+        text: b"ply\nformat binary_little_endian 1.0\nend_header x\n",
+        given: 0,
+        fault: Some(MeshFault::Text {
+            at: 36,
+            why: MeshWhy::NoElement {
+                which: ElementKind::Vertex,
+            },
+        }),
+    },
+    Case {
+        text: b"ply\nformat binary_little_endian 1.0\nelement vertex 1\nproperty int x\nproperty int y\nproperty int z\nend_header\n",
+        given: 0,
+        fault: Some(MeshFault::Text {
+            at: 98,
+            why: MeshWhy::NoElement {
+                which: ElementKind::Face,
+            },
+        }),
+    },
+    Case {
+        text: b"ply\nformat binary_little_endian 1.0\nelement vertex 1\nproperty int x\nproperty int z\nelement face 1\nend_header\n",
+        given: 0,
+        fault: Some(MeshFault::Text {
+            at: 98,
+            why: MeshWhy::NoProperty { which: 1 },
+        }),
+    },
+    Case {
+        text: b"ply\nformat binary_little_endian 1.0\nelement vertex 1\nproperty int x\nproperty int y\nproperty int z\nelement face 1\nend_header\n",
+        given: 0,
+        fault: Some(MeshFault::Text {
+            at: 113,
+            why: MeshWhy::NoProperty { which: 3 },
+        }),
+    },
+    Case {
+        text: b"ply\nformat binary_little_endian 1.0\nelement vertex 1\nproperty int x\nproperty int y\nproperty int z\nelement face 1\nproperty list uchar int vertex_indices\nend_header x\n",
+        given: 0,
+        fault: Some(MeshFault::Text {
+            at: 152,
+            why: MeshWhy::HeadLine,
+        }),
+    },
+    Case {
+        text: b"ply\nformat binary_little_endian 1.0\nelement vertex 1\nproperty int x\nproperty int y\nproperty int z\nelement face 1\nproperty list uchar int vertex_indices\n",
+        given: 0,
+        fault: Some(MeshFault::Text {
+            at: 152,
+            why: MeshWhy::Cut,
+        }),
+    },
+    Case {
+        text: b"ply\nformat binary_little_endian 1.0\nelement vertex 0\nproperty int x\nproperty int y\nproperty int z\nelement face 0\nproperty list uchar int vertex_indices\nend_header",
+        given: 1,
+        fault: None,
+    },
+];
+
+const FACES: [Case; 8] = [
+    Case {
+        text: b"ply\nformat binary_little_endian 1.0\nelement vertex 3\nproperty char x\nproperty uchar y\nproperty short z\nelement face 1\nproperty list char int vertex_index\nend_header\r\n\0\0\0\0\xff\xc8\x01\x80\x04\x05\x06\0\x03\x02\0\0\0\0\0\0\0\x01\0\0\0rest",
+        given: 5,
+        fault: None,
+    },
+    Case {
+        text: b"ply\nformat binary_little_endian 1.0\nelement vertex 3\nproperty char x\nproperty uchar y\nproperty short z\nelement face 1\nproperty list char int vertex_index\nend_header\r\n\0\0\0\0\xff\xc8\x01\x80\x04\x05\x06\0\xff",
+        given: 4,
+        fault: Some(MeshFault::Text {
+            at: 178,
+            why: MeshWhy::ListCount,
+        }),
+    },
+    Case {
+        text: b"ply\nformat binary_little_endian 1.0\nelement vertex 3\nproperty char x\nproperty uchar y\nproperty short z\nelement face 1\nproperty list char int vertex_index\nend_header\r\n\0\0\0\0\xff\xc8\x01\x80\x04\x05\x06\0\x04",
+        given: 4,
+        fault: Some(MeshFault::Text {
+            at: 178,
+            why: MeshWhy::NotTriangle { face: 0 },
+        }),
+    },
+    Case {
+        text: b"ply\nformat binary_little_endian 1.0\nelement vertex 3\nproperty char x\nproperty uchar y\nproperty short z\nelement face 1\nproperty list char int vertex_index\nend_header\r\n\0\0\0\0\xff\xc8\x01\x80\x04\x05\x06\0\x03\x01\0\0\0\x01\0\0\0\x03\0\0\0",
+        given: 4,
+        fault: Some(MeshFault::Text {
+            at: 178,
+            why: MeshWhy::BadIndex { face: 0 },
+        }),
+    },
+    Case {
+        text: b"ply\nformat binary_little_endian 1.0\nelement vertex 3\nproperty char x\nproperty uchar y\nproperty short z\nelement face 1\nproperty list char int vertex_index\nend_header\r\n\0\0\0\0\xff\xc8\x01\x80\x04\x05\x06\0\x03\0\0\0\0\x01\0\0\0\xff\xff\xff\xff",
+        given: 4,
+        fault: Some(MeshFault::Text {
+            at: 178,
+            why: MeshWhy::BadIndex { face: 0 },
+        }),
+    },
+    Case {
+        text: b"ply\nformat binary_little_endian 1.0\nelement vertex 3\nproperty char x\nproperty uchar y\nproperty short z\nelement face 1\nproperty list char int vertex_index\nend_header\r\n\0\0\0\0\xff\xc8\x01\x80\x04\x05\x06\0\x03\0\0\0\0\x01\0\0\0\0\0\0\0",
+        given: 4,
+        fault: Some(MeshFault::Text {
+            at: 178,
+            why: MeshWhy::Repeated { face: 0 },
+        }),
+    },
+    Case {
+        text: b"ply\nformat binary_little_endian 1.0\nelement vertex 3\nproperty char x\nproperty uchar y\nproperty short z\nelement face 1\nproperty list char int vertex_index\nend_header\r\n\0\0\0\0\xff\xc8\x01\x80\x04\x05\x06\0\x03\x01\0\0\0\x01\0\0\0\x03\0\0",
+        given: 4,
+        fault: Some(MeshFault::Text {
+            at: 190,
+            why: MeshWhy::Cut,
+        }),
+    },
+    Case {
+        text: b"ply\nformat binary_little_endian 1.0\nelement vertex 3\nproperty char x\nproperty uchar y\nproperty short z\nelement face 1\nproperty list char int vertex_index\nend_header\r\n\0\0\0\0\xff\xc8\x01\x80\x04\x05\x06\0",
+        given: 4,
+        fault: Some(MeshFault::Text {
+            at: 178,
+            why: MeshWhy::Cut,
+        }),
+    },
+];
+
+const SKIPPED: [Case; 4] = [
+    Case {
+        text: b"ply\r\nformat binary_little_endian 1.0\r\nelement none 18446744073709551615\nelement before 2\nproperty list short ushort l\nproperty double d\nelement vertex 2\nproperty ushort z\nproperty list uint char l\nproperty int y\nproperty float w\nproperty uint x\nelement between 3\nproperty uchar a\nproperty float b\nelement face 0\nproperty list uchar int vertex_index\nelement behind 9\nproperty int a\nend_header\n\x02\0\t\0\t\0\0\0\0\0\0\0\0\0\0\0\0\0\0\0\0\0\0\0\x07\0\x03\0\0\0abc\0\x80\xff\xff\0\0\0\0\xff\x7f\0\0\x08\0\0\0\0\0\xff\xff\xff\xff\0\0\0\0\x01\0\0\0",
+        given: 3,
+        fault: None,
+    },
+    Case {
+        text: b"ply\r\nformat binary_little_endian 1.0\r\nelement none 18446744073709551615\nelement before 2\nproperty list short ushort l\nproperty double d\nelement vertex 2\nproperty ushort z\nproperty list uint char l\nproperty int y\nproperty float w\nproperty uint x\nelement between 3\nproperty uchar a\nproperty float b\nelement face 0\nproperty list uchar int vertex_index\nelement behind 9\nproperty int a\nend_header\n\x02\0\t\0\t\0\0\0\0\0\0\0\0\0\0\0\0\0\0\0\0\0\0\0\x07\0\x03\0\0\0abc\0\x80\xff\xff\0\0\0\0\xff\x7f\0\0\x08\0\0\0\0\0\xff\xff\xff\xff\0\0\0\0@\x9c\0\0",
+        given: 2,
+        fault: Some(MeshFault::Text {
+            at: 437,
+            why: MeshWhy::OutOfRange { vertex: 1 },
+        }),
+    },
+    Case {
+        text: b"ply\r\nformat binary_little_endian 1.0\r\nelement none 18446744073709551615\nelement before 2\nproperty list short ushort l\nproperty double d\nelement vertex 2\nproperty ushort z\nproperty list uint char l\nproperty int y\nproperty float w\nproperty uint x\nelement between 3\nproperty uchar a\nproperty float b\nelement face 0\nproperty list uchar int vertex_index\nelement behind 9\nproperty int a\nend_header\n\xff\xff",
+        given: 1,
+        fault: Some(MeshFault::Text {
+            at: 392,
+            why: MeshWhy::ListCount,
+        }),
+    },
+    Case {
+        text: b"ply\r\nformat binary_little_endian 1.0\r\nelement none 18446744073709551615\nelement before 2\nproperty list short ushort l\nproperty double d\nelement vertex 2\nproperty ushort z\nproperty list uint char l\nproperty int y\nproperty float w\nproperty uint x\nelement between 3\nproperty uchar a\nproperty float b\nelement face 0\nproperty list uchar int vertex_index\nelement behind 9\nproperty int a\nend_header\n\x02\0\t\0\t\0\0\0\0\0\0\0\0\0\0",
+        given: 1,
+        fault: Some(MeshFault::Text {
+            at: 407,
+            why: MeshWhy::Cut,
+        }),
+    },
+];
+
+/// A triangle in big-endian numbers, with a property that is skipped.
+const TRIANGLE: &[u8] =
+    b"ply\nformat binary_big_endian 1.0\ncomment made by hand\nelement vertex 3\nproperty short x\nproperty short y\nproperty short z\nproperty float nx\nelement face 1\nproperty list uchar int vertex_index\nend_header\n\0\0\0\0\0\0\0\0\0\0\0\x04\0\0\0\0\0\0\0\0\0\0\0\x04\0\0\0\0\0\0\x03\0\0\0\0\0\0\0\x01\0\0\0\x02";
+
+const FLOAT: [Case; 1] = [Case {
+    text: b"ply\nformat binary_big_endian 1.0\ncomment made by hand\nelement vertex 3\nproperty float x\nproperty short y\nproperty short z\nproperty float nx\nelement face 1\nproperty list uchar int vertex_index\nend_header\n\0\0\0\0\0\0\0\0\0\0\0\x04\0\0\0\0\0\0\0\0\0\0\0\x04\0\0\0\0\0\0\x03\0\0\0\0\0\0\0\x01\0\0\0\x02",
+    given: 0,
+    fault: Some(MeshFault::Text {
+        at: 71,
+        why: MeshWhy::FloatCoordinate,
+    }),
+}];
+
+/// A reader of bytes, of which the source gives so many at a take and fails at one take.
+fn reader(
+    alloc: Global,
+    text: &[u8],
+    piece: usize,
+    failing: u64,
+) -> Result<PlyReader<MemSource>, AllocError> {
+    let text = Vec::from_slice(alloc, text)?;
+    let source = MemSource::new(text, vec![in alloc; failing]?, piece.max(1));
+    match Lines::new(alloc, source, BUDGET, false) {
+        Ok(lines) => Ok(PlyReader::new(lines)),
+        Err((_, error)) => Err(error),
+    }
+}
+
+/// Whether so many items come next.
+fn gives(reader: &mut PlyReader<MemSource>, count: usize) -> bool {
+    for _ in 0..count {
+        match reader.next() {
+            Ok(Some(_)) => {}
+            _ => return false,
+        }
+    }
+    true
+}
+
+/// Whether the reader gives no item more, or this fault.
+fn ends(reader: &mut PlyReader<MemSource>, fault: Option<MeshFault>) -> bool {
+    match (reader.next(), fault) {
+        (Ok(None), None) => true,
+        (Err(fault), Some(wanted)) => fault == wanted,
+        _ => false,
+    }
+}
+
+/// Whether so many items and then this end come with so many bytes at a take, and the end comes again.
+fn holds(
+    alloc: Global,
+    text: &[u8],
+    given: usize,
+    fault: Option<MeshFault>,
+    piece: usize,
+) -> Result<bool, AllocError> {
+    let mut reader = reader(alloc, text, piece, 0)?;
+    Ok(gives(&mut reader, given) && ends(&mut reader, fault) && ends(&mut reader, fault))
+}
+
+/// Which of these cases fails with takes of one byte or of all.
+fn first_failing(alloc: Global, cases: &[Case]) -> Result<Option<usize>, AllocError> {
+    for (i, case) in cases.iter().enumerate() {
+        let slow = holds(alloc, case.text, case.given, case.fault, 1)?;
+        if !(slow && holds(alloc, case.text, case.given, case.fault, 1000)?) {
+            return Ok(Some(i));
+        }
+    }
+    Ok(None)
+}
+
+#[test]
+fn first_lines(rt: HostRuntime) {
+    assert_eq!(rt; first_failing(rt.alloc(), &FIRST_LINES), Ok(None));
+}
+
+#[test]
+fn elements(rt: HostRuntime) {
+    assert_eq!(rt; first_failing(rt.alloc(), &ELEMENTS), Ok(None));
+}
+
+#[test]
+fn properties(rt: HostRuntime) {
+    assert_eq!(rt; first_failing(rt.alloc(), &PROPERTIES), Ok(None));
+}
+
+#[test]
+fn header_ends(rt: HostRuntime) {
+    assert_eq!(rt; first_failing(rt.alloc(), &ENDS), Ok(None));
+}
+
+#[test]
+fn faces(rt: HostRuntime) {
+    assert_eq!(rt; first_failing(rt.alloc(), &FACES), Ok(None));
+}
+
+#[test]
+fn skipped(rt: HostRuntime) {
+    assert_eq!(rt; first_failing(rt.alloc(), &SKIPPED), Ok(None));
+}
+
+#[test]
+fn float_coordinate(rt: HostRuntime) {
+    assert_eq!(rt; first_failing(rt.alloc(), &FLOAT), Ok(None));
+}
+
+#[test]
+fn items(rt: HostRuntime) -> Result<(), Fail> {
+    let items = [
+        Item::Counts { v: 3, f: 1 },
+        Item::Vertex(Point { x: 0, y: 0, z: 0 }),
+        Item::Vertex(Point { x: 4, y: 0, z: 0 }),
+        Item::Vertex(Point { x: 0, y: 4, z: 0 }),
+        Item::Face(Tri {
+            a: Name(0),
+            b: Name(1),
+            c: Name(2),
+        }),
+    ];
+    for piece in [1, 1000] {
+        let mut reader = reader(rt.alloc(), TRIANGLE, piece, 0)?;
+        for item in &items {
+            assert_eq!(rt; reader.next(), Ok(Some(*item)));
+        }
+        assert!(rt; ends(&mut reader, None));
+        let mut source = reader.into_source();
+        assert_eq!(rt; source.take(&mut [0; 4]), Ok(0));
+    }
+    Ok(())
+}
+
+/// Items whose numbers have signs, in little-endian files.
+#[test]
+fn signed_items(rt: HostRuntime) -> Result<(), Fail> {
+    let mut faces = reader(rt.alloc(), FACES[0].text, 1000, 0)?;
+    assert!(rt; gives(&mut faces, 2));
+    let second = Point {
+        x: -1,
+        y: 200,
+        z: -32767,
+    };
+    assert_eq!(rt; faces.next(), Ok(Some(Item::Vertex(second))));
+    let mut skipped = reader(rt.alloc(), SKIPPED[0].text, 1000, 0)?;
+    assert!(rt; gives(&mut skipped, 1));
+    let first = Point {
+        x: 32767,
+        y: -32768,
+        z: 7,
+    };
+    assert_eq!(rt; skipped.next(), Ok(Some(Item::Vertex(first))));
+    Ok(())
+}
+
+/// How many items come before a cut behind so many bytes.
+const CUTS: [(usize, usize); 7] = [
+    (0, 0),
+    (202, 1),
+    (203, 1),
+    (212, 1),
+    (213, 2),
+    (240, 4),
+    (245, 4),
+];
+
+#[test]
+fn cuts(rt: HostRuntime) -> Result<(), Fail> {
+    for (length, given) in CUTS {
+        let fault = MeshFault::Text {
+            at: length as u64,
+            why: MeshWhy::Cut,
+        };
+        let text = TRIANGLE.get(..length).ok_or("short")?;
+        assert!(rt; holds(rt.alloc(), text, given, Some(fault), 1)?);
+        assert!(rt; holds(rt.alloc(), text, given, Some(fault), 1000)?);
+    }
+    Ok(())
+}
+
+#[test]
+fn failed_take(rt: HostRuntime) -> Result<(), Fail> {
+    let mut reader = reader(rt.alloc(), TRIANGLE, 100, 4)?;
+    assert!(rt; gives(&mut reader, 1));
+    assert!(rt; ends(&mut reader, Some(MeshFault::Read)));
+    assert!(rt; ends(&mut reader, Some(MeshFault::Read)));
+    Ok(())
+}
+
+#[test]
+fn first_bytes(rt: HostRuntime) {
+    assert!(rt; is_ply(b"ply\n"));
+    assert!(rt; is_ply(b"plyx"));
+    assert!(rt; !is_ply(b"pl"));
+    assert!(rt; !is_ply(b"OFF"));
+}
