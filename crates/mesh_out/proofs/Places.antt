@@ -1,12 +1,16 @@
 -- Where a name stands among ascending names.
-use Rattle.std.proofs.Common.{◌≡◌, ℕ, ◌<◌, ◌≤◌, ◌+◌, List, [], ◌∷◌, length, get_or, zero, suc, ltb, Bool, cond, true, false, subst, arith, add-one}
-use Rattle.std.specs.List.{count_by}
+use Rattle.std.proofs.Common.{◌≡◌, ℕ, ◌<◌, ◌≤◌, ◌+◌, List, [], ◌∷◌, length, map, get_or, zero, suc, ltb, Bool, cond, true, false, subst, arith, add-one}
+use Rattle.std.specs.List.{All, count_by}
 use Rattle.std.specs.List.Sorted.{IsStrictlyIncreasing, IsPartitionedBy, IsPartitionPoint}
 use Rattle.std.proofs.lemmas.Bool.{ltb-true}
 use Rattle.std.proofs.lemmas.Grind.{common_steps}
 use Rattle.std.proofs.lemmas.List.{get_or_default}
-use Rattle.std.proofs.lemmas.List.Sums.{sum_by-cons}
+use Rattle.std.proofs.lemmas.List.Elements.{All-map}
+use Rattle.std.proofs.lemmas.List.Sums.{count_by-le-length, sum_by-cons}
 use Rattle.std.proofs.lemmas.List.Sorted.{IsNonDecreasingBy-from_all_adjacent, IsPartitionedBy-ltb}
+use Rattle.mesh_data.specs.declared.geometry.Tri.{Tri}
+use Rattle.mesh_data.specs.Triangles.{IsBelow}
+use Rattle.mesh_out.specs.MeshBytes.{position_of, renumbered}
 
 -- among ascending names, those below v come first
 pub IsPartitionedBy-increasing : (names : List ℕ) (v : ℕ) → IsStrictlyIncreasing names → IsPartitionedBy (λ n. ltb n v) names
@@ -42,3 +46,11 @@ count_by_front (n ∷ ns) v zero within point =
 count_by_front (n ∷ ns) v (suc i) within point =
     let rest = count_by_front ns v i (omega arith) (λ k d low high. point.0 (suc k) d (omega arith) (omega arith), λ k d low high. point.1 (suc k) d (omega arith) (omega arith)) in
     omega (arith, count_by-cons n v ns true (point.0 0 0 (omega arith) (omega arith)))
+
+-- a position is at most the number of names
+one_below : (names : List ℕ) (v : ℕ) → position_of names v < length names + 1
+one_below names v = omega (arith, count_by-le-length (λ n. ltb n v) names)
+
+pub all_below : (names : List ℕ) (tris : List Tri) → All (IsBelow (length names + 1)) (map (renumbered names) tris)
+all_below names tris =
+    All-map (IsBelow (length names + 1)) (renumbered names) tris (λ k t lt. (one_below names _, one_below names _, one_below names _))

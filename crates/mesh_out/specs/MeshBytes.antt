@@ -2,7 +2,8 @@
 use Rattle.std.specs.Prelude.{ℕ, nat_lt, List, map, count_by}
 use Rattle.mesh_data.specs.declared.geometry.Tri.{Tri}
 use Rattle.mesh_data.specs.Mesh.{Mesh, names_of, points_of}
-use Rattle.mesh_out.specs.Off.{off_text}
+use Rattle.mesh_out.specs.declared.form.Form.{Form}
+use Rattle.mesh_out.specs.Form.{form_text}
 
 -- the number of these names that lie below v
 abbrev pub position_of : List ℕ → ℕ → ℕ
@@ -12,6 +13,10 @@ position_of names v = count_by (λ n. nat_lt n v) names
 abbrev pub renumbered : List ℕ → Tri → Tri
 renumbered names t = record { a = position_of names t.a; b = position_of names t.b; c = position_of names t.c }
 
--- the OFF file of a mesh
-abbrev pub mesh_bytes : Mesh → List ℕ
-mesh_bytes m = off_text (points_of m) (map (renumbered (names_of m)) m.tris)
+-- the faces of a mesh's file
+abbrev pub faces_of : Mesh → List Tri
+faces_of m = map (renumbered (names_of m)) m.tris
+
+-- the file of a mesh in a format
+abbrev pub mesh_bytes : Form → Mesh → List ℕ
+mesh_bytes form m = form_text form (points_of m) (faces_of m)

@@ -4,7 +4,6 @@
 mod block;
 mod form;
 mod laws;
-mod off;
 mod ply;
 mod positions;
 mod records;
@@ -13,7 +12,6 @@ mod whole;
 
 pub use form::{Form, OutFault};
 pub use laws::form_laws;
-pub use off::off_bytes;
 pub use positions::renumber;
 pub use stream::MeshOut;
 pub use whole::write_mesh;

@@ -1,4 +1,6 @@
-ghost use Rattle.std.specs.Prelude.{◌≡◌, IfOk, map};
+ghost use Rattle.std.specs.Prelude.{◌≡◌, ◌+◌, IfOk, length, map};
+ghost use Rattle.std.specs.List.{All};
+ghost use Rattle.mesh_data.specs.Triangles.{IsBelow};
 ghost use Rattle.mesh_out.specs.MeshBytes.{position_of, renumbered};
 
 use mesh_data::{Name, NameSet, Tri, Tris};
@@ -31,7 +33,8 @@ fn renumber_all(alloc: Global, names: &NameSet, tris: &[Tri]) -> Result<Vec<Tri>
 /// The triangles with the positions of their names among the names, counted from 0. A name that isn't
 /// among them gets the number of names below it.
 pub fn renumber(alloc: Global, names: &NameSet, tris: &[Tri]) -> Result<Tris, AllocError>
-    ensures { IfOk result (λ ts. ts ≡ map (renumbered names.now) tris.now) }
+    ensures places { IfOk result (λ ts. ts ≡ map (renumbered names.now) tris.now) }
+    ensures below { IfOk result (All (IsBelow (length names.now + 1))) }
 {
     Ok(Tris::from_vec(renumber_all(alloc, names, tris)?))
 }

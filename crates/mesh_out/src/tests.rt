@@ -2,7 +2,7 @@ ghost use Rattle.std.specs.Prelude.{◌≡◌, ◌<◌, ◌^◌, length, true, O
 ghost use Rattle.std.specs.List.{All};
 ghost use Rattle.mesh_data.specs.Triangles.{IsBelow};
 
-use crate::{Form, MeshOut, OutFault, off_bytes, renumber, write_mesh};
+use crate::{Form, MeshOut, OutFault, renumber, write_mesh};
 use mesh_data::{Name, NameSet, Point, Tri};
 use oemm_io::{Failed, MemSink, Sink};
 use std::alloc::{AllocError, Global};
@@ -29,9 +29,9 @@ fn tri(a: u32, b: u32, c: u32) -> Tri {
     }
 }
 
-fn is_off(alloc: Global, points: &[Point], faces: &[Tri], text: &str) -> Result<bool, AllocError> {
-    let bytes = off_bytes(alloc, points, faces)?;
-    Ok(bytes.slice() == text.as_bytes())
+fn is_off(alloc: Global, points: &[Point], faces: &[Tri], text: &str) -> Result<bool, Fail> {
+    let (sink, done) = written(alloc, Form::Off, points, faces, 0)?;
+    Ok(done.is_ok() && sink.bytes() == text.as_bytes())
 }
 
 #[test]
@@ -184,8 +184,8 @@ fn many_points(alloc: Global) -> Result<Vec<Point>, AllocError> {
 fn more_than_a_block(rt: HostRuntime) -> Result<(), Fail> {
     let points = many_points(rt.alloc())?;
     let faces = [tri(0, 1, 2), tri(0, 2, 5999)];
-    let bytes = off_bytes(rt.alloc(), &points, &faces)?;
-    let whole = bytes.slice().len();
+    let (all, _) = written(rt.alloc(), Form::Off, &points, &faces, 0)?;
+    let whole = all.bytes().len();
     assert!(rt; whole > 65536);
     for (failing, wanted, held) in [
         (0, Ok(()), whole),
@@ -195,7 +195,7 @@ fn more_than_a_block(rt: HostRuntime) -> Result<(), Fail> {
         let (sink, done) = written(rt.alloc(), Form::Off, &points, &faces, failing)?;
         assert_eq!(rt; done, wanted);
         assert_eq!(rt; sink.bytes().len(), held);
-        assert!(rt; bytes.slice().starts_with(sink.bytes()));
+        assert!(rt; all.bytes().starts_with(sink.bytes()));
     }
     Ok(())
 }
@@ -234,6 +234,7 @@ fn a_refused_vertex_is_written_later(rt: HostRuntime) -> Result<(), Fail> {
     let sink = MemSink::with_room(rt.alloc(), 99999, vec![in rt.alloc(); 3u64]?, 9999)?;
     let (sink, done) = written_patiently(rt.alloc(), sink, &points);
     assert!(rt; done);
-    assert!(rt; sink.bytes() == off_bytes(rt.alloc(), &points, &[])?.slice());
+    let (whole, _) = written(rt.alloc(), Form::Off, &points, &[], 0)?;
+    assert!(rt; sink.bytes() == whole.bytes());
     Ok(())
 }
