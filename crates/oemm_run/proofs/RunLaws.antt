@@ -4,17 +4,21 @@ use Rattle.std.proofs.lemmas.Bool.{false≢true}
 use Rattle.fault_counts.specs.Counts.{Rose, IsCalm}
 use Rattle.fault_counts.specs.Told.{Told, IsAtEnd}
 use Rattle.mesh_data.specs.declared.geometry.Cell.{Cell}
+use Rattle.mesh_data.specs.declared.geometry.Point.{Point}
 use Rattle.mesh_data.specs.declared.geometry.Soup.{Soup}
+use Rattle.mesh_data.specs.declared.geometry.Tri.{Tri}
 use Rattle.mesh_data.specs.declared.edits.Task.{Task}
 use Rattle.mesh_data.specs.declared.shapes.Shape.{Shape}
 use Rattle.mesh_data.specs.declared.shapes.Audit.TheVariants as audit
 use Rattle.mesh_data.specs.declared.items.MeshFault.{MeshFault}
 use Rattle.mesh_data.specs.Manifold.{IsManifold, Audits}
 use Rattle.mesh_model.proofs.Audits.{one_shape, no_shape}
-use Rattle.mesh_data.specs.Mesh.{Mesh, start}
+use Rattle.mesh_data.specs.Mesh.{Mesh, start, points_of}
 use Rattle.mesh_data.specs.Octree.{core_of, area_of, is_inside}
 use Rattle.mesh_data.specs.Work.{Did, do_task, play, wide_entry, work}
-use Rattle.mesh_out.specs.MeshBytes.{mesh_bytes}
+use Rattle.mesh_out.specs.declared.form.Form.{Form}
+use Rattle.mesh_out.specs.Form.{form_text}
+use Rattle.mesh_out.specs.MeshBytes.{mesh_bytes, faces_of}
 use Rattle.edit_script.specs.declared.fault.ScriptFault.{ScriptFault}
 use Rattle.edit_script.specs.declared.fault.ScriptFault.TheVariants as script
 use Rattle.edit_script.specs.Grammar.{script_of}
@@ -26,28 +30,32 @@ use Rattle.oemm_run.specs.Outside.{Outside, Wrote, FailedIn}
 use Rattle.oemm_run.specs.Phases.{WritesTexts, end_of_mesh, end_of_script}
 use Rattle.oemm_run.specs.Run.{RunGives, AreRun, HasMesh, HasManifold, HasScript, HasMeshFault, HasBadShape, HasScriptFault, IsDone, played, report_text, one_leaf, core_limit}
 use Rattle.oemm_run.specs.Soup.{soup_of}
-use Rattle.oemm_run.specs.Words.{order_of}
+use Rattle.oemm_run.specs.Words.{order_of, form_of}
 
 -- the texts that are written are the run's
 abbrev Gives : List (List ℕ) → Outside → Outside → List ℕ → List ℕ → Soup → List Task → End → Type 0
-Gives words before after mesh text s tasks end = HasScript words before s tasks → IsAtEnd after.mesh.left → IsAtEnd after.script.left → mesh ≡ mesh_bytes (played s tasks).mesh → text ≡ report_text (played s tasks) → WritesTexts before.out after.out before.report after.report mesh text end → RunGives words before after end
+Gives words before after mesh text s tasks end = HasScript words before s tasks → IsAtEnd after.script.left → mesh ≡ mesh_bytes (form_of words) (played s tasks).mesh → text ≡ report_text (played s tasks) → WritesTexts before.out after.out before.report after.report mesh text end → RunGives words before after end
+
+-- the points and faces of the mesh that is left make its file
+pub written_mesh : (words : List (List ℕ)) (form : Form) (m n : Mesh) (points : List Point) (faces : List Tri) → form_of words ≡ form → points ≡ points_of m → faces ≡ faces_of m → m ≡ n → form_text form points faces ≡ mesh_bytes (form_of words) n
+written_mesh words form m n points faces asked p f same = cc
 
 -- once the mesh and the script were read, a run gives what writing gives
 pub gives_written : (words : List (List ℕ)) (before after : Outside) (mesh text : List ℕ) (s : Soup) (tasks : List Task) (end : End) → Gives words before after mesh text s tasks end
-gives_written words before after mesh text s tasks Done read a b m t w =
-    record { soup = s; tasks = tasks; earlier = read; mesh_end = a; script_end = b; out = subst (Wrote before.out after.out) m w.0; report = subst (Wrote before.report after.report) t w.1 }
-gives_written words before after mesh text s tasks WriteOut read a b m t w =
+gives_written words before after mesh text s tasks Done read b m t w =
+    record { soup = s; tasks = tasks; earlier = read; script_end = b; out = subst (Wrote before.out after.out) m w.0; report = subst (Wrote before.report after.report) t w.1 }
+gives_written words before after mesh text s tasks WriteOut read b m t w =
     record { soup = s; tasks = tasks; earlier = read; out = subst (FailedIn before.out after.out) m w.0; report = w.1 }
-gives_written words before after mesh text s tasks WriteReport read a b m t w =
+gives_written words before after mesh text s tasks WriteReport read b m t w =
     record { soup = s; tasks = tasks; earlier = read; out = subst (Wrote before.out after.out) m w.0; report = subst (FailedIn before.report after.report) t w.1 }
-gives_written words before after mesh text s tasks Usage read a b m t w = absurd w
-gives_written words before after mesh text s tasks ReadMesh read a b m t w = absurd w
-gives_written words before after mesh text s tasks ReadScript read a b m t w = absurd w
-gives_written words before after mesh text s tasks (MeshText at why) read a b m t w = absurd w
-gives_written words before after mesh text s tasks (MeshShape shape) read a b m t w = absurd w
-gives_written words before after mesh text s tasks (ScriptText line why) read a b m t w = absurd w
-gives_written words before after mesh text s tasks (Limit what count) read a b m t w = absurd w
-gives_written words before after mesh text s tasks Memory read a b m t w = absurd w
+gives_written words before after mesh text s tasks Usage read b m t w = absurd w
+gives_written words before after mesh text s tasks ReadMesh read b m t w = absurd w
+gives_written words before after mesh text s tasks ReadScript read b m t w = absurd w
+gives_written words before after mesh text s tasks (MeshText at why) read b m t w = absurd w
+gives_written words before after mesh text s tasks (MeshShape shape) read b m t w = absurd w
+gives_written words before after mesh text s tasks (ScriptText line why) read b m t w = absurd w
+gives_written words before after mesh text s tasks (Limit what count) read b m t w = absurd w
+gives_written words before after mesh text s tasks Memory read b m t w = tt
 
 -- once the mesh was read and is a manifold, a run whose script can't be read gives this
 script_fault_gives : (words : List (List ℕ)) (before after : Outside) (s : Soup) (fault : ScriptFault) → HasManifold words before s → IfSome before.script.left (λ bytes. GivesFault fault (script_of bytes)) → (fault ≡ script.Read → Rose before.script.faults after.script.faults) → RunGives words before after (end_of_script fault)
@@ -83,9 +91,9 @@ journal_tasks cells limit m (task ∷ tasks) =
     ∙ ap (λ ts. task ∷ ts) (journal_tasks cells limit did.mesh tasks)
 
 -- what is written of a play is that play
-writes_play : (before after : Outside) (s : Soup) (tasks : List Task) → Wrote before.out after.out (mesh_bytes (played s tasks).mesh) → Wrote before.report after.report (report_text (played s tasks)) → WritesPlay before after s tasks
+writes_play : (form : Form) (before after : Outside) (s : Soup) (tasks : List Task) → Wrote before.out after.out (mesh_bytes form (played s tasks).mesh) → Wrote before.report after.report (report_text (played s tasks)) → WritesPlay form before after s tasks
 unfolding played
-writes_play before after s tasks out report =
+writes_play form before after s tasks out report =
     let p = play one_leaf core_limit (start s) tasks in
     let same : map (λ e. e.task) p.journal ≡ tasks = journal_tasks one_leaf core_limit (start s) tasks in
     record {
@@ -151,14 +159,14 @@ no_script_fault words before s tasks f good bad =
 
 -- ---- the headline
 
-done_writes : (words : List (List ℕ)) (before after : Outside) (s : Soup) (tasks : List Task) → HasGoodInput words before s tasks → IsDone words before after → WritesPlay before after s tasks
+done_writes : (words : List (List ℕ)) (before after : Outside) (s : Soup) (tasks : List Task) → HasGoodInput words before s tasks → IsDone words before after → WritesPlay (form_of words) before after s tasks
 done_writes words before after s tasks good done =
     let soups : done.soup ≡ s = same_soup words before s done.soup good.mesh.read done.earlier.earlier.earlier in
     let scripts : done.tasks ≡ tasks = same_tasks words before s done.soup tasks done.tasks good done.earlier in
-    subst (λ t. WritesPlay before after t tasks) soups
-    (subst (λ ts. WritesPlay before after done.soup ts) scripts (writes_play before after done.soup done.tasks done.out done.report))
+    subst (λ t. WritesPlay (form_of words) before after t tasks) soups
+    (subst (λ ts. WritesPlay (form_of words) before after done.soup ts) scripts (writes_play (form_of words) before after done.soup done.tasks done.out done.report))
 
-ends_done : (words : List (List ℕ)) (before after : Outside) (end : End) → RunGives words before after end → (s : Soup) (tasks : List Task) → HasGoodInput words before s tasks → end ≡ Done → WritesPlay before after s tasks
+ends_done : (words : List (List ℕ)) (before after : Outside) (end : End) → RunGives words before after end → (s : Soup) (tasks : List Task) → HasGoodInput words before s tasks → end ≡ Done → WritesPlay (form_of words) before after s tasks
 ends_done words before after Done gives s tasks good e = done_writes words before after s tasks good gives
 ends_done words before after Usage gives s tasks good e = absurd (cc)
 ends_done words before after ReadMesh gives s tasks good e = absurd (cc)

@@ -1,44 +1,31 @@
 -- What the bytes of a source lead to.
-use Rattle.std.proofs.Common.{◌≡◌, ℕ, ◌≤◌, ◌<◌, List, ◌++◌, length, Some, None, Result, Err, IfSome, refl, sym, ap, ◌∙◌, subst, cond, append-nil}
-use Rattle.std.proofs.lemmas.Bool.{le-ltb, lt-ltb}
+use Rattle.std.proofs.Common.{◌≡◌, ℕ, ◌<◌, Bool, List, [], ◌∷◌, ◌++◌, length, take, Some, None, Result, IfSome, refl, subst, sym, ap, ◌∙◌, arith}
+use Rattle.std.specs.Option.{option_map}
+use Rattle.std.specs.Prelude.{codes}
+use Rattle.std.specs.Str.{bytes_eq}
 use Rattle.fault_counts.specs.Told.{Told, Takes, IsAtEnd}
 use Rattle.mesh_data.specs.declared.geometry.Soup.{Soup}
 use Rattle.mesh_data.specs.declared.items.MeshFault.{MeshFault}
-use Rattle.mesh_data.specs.declared.items.MeshFault.TheVariants.{TooMany}
-use Rattle.mesh_data.specs.declared.items.What.TheVariants.{MeshBytes}
 use Rattle.mesh_data.specs.Reading.{soup}
-use Rattle.off_reader.specs.Grammar.{off_reading}
-use Rattle.oemm_io.specs.Whole.{IsLongerThan}
-use Rattle.oemm_io.specs.declared.whole.TakeFault.{TakeFault}
-use Rattle.oemm_io.specs.declared.whole.TakeFault.TheVariants as take
-use Rattle.oemm_run.specs.Soup.{limited, soup_of, most_mesh_bytes, GivesSoup, fault_of_take}
+use Rattle.oemm_run.specs.Soup.{limited, soup_of, reading_in, begins_as_ply, GivesSoup}
 
--- the bytes that were taken to the end are all that were left
-pub taken_all : (before after : Told) (bytes : List ℕ) → Takes before after bytes → IsAtEnd after → IfSome before (λ all. all ≡ bytes)
-taken_all before None bytes t e = subst (λ told. IfSome told (λ all. all ≡ bytes)) (sym t) tt
-taken_all before (Some rest) bytes t e =
-    subst (λ told. IfSome told (λ all. all ≡ bytes)) (sym t) (ap (λ xs. bytes ++ xs) e ∙ append-nil bytes)
+-- fewer bytes than three in front are all of them, and so the first three are those of the front
+same_front : (front rest : List ℕ) → (length front < 3 → rest ≡ []) → take 3 (front ++ rest) ≡ take 3 front
+same_front [] rest short = ap (take 3) (short (omega arith))
+same_front (a ∷ []) rest short = ap (λ xs. take 3 (a ∷ xs)) (short (omega arith))
+same_front (a ∷ b ∷ []) rest short = ap (λ xs. take 3 (a ∷ b ∷ xs)) (short (omega arith))
+same_front (a ∷ b ∷ c ∷ front) rest short = refl
 
--- a mesh within the limit of bytes leads to what its reading does
-pub soup_of-few : (bytes : List ℕ) → length bytes ≤ most_mesh_bytes → soup_of bytes ≡ soup (limited (off_reading bytes))
+-- what is answered of the bytes of a front and of those behind it is answered of the source
+pub gives_behind_front :
+    (before after : Told) (front : List ℕ) (is_ply : Bool) (r : Result Soup MeshFault) → Takes before after front →
+    (length front < 3 → IsAtEnd after) → is_ply ≡ bytes_eq (take 3 front) (codes "ply") →
+    IfSome (option_map (λ rest. front ++ rest) after) (λ bytes. GivesSoup r (soup (limited (reading_in is_ply bytes)))) →
+    IfSome before (λ bytes. GivesSoup r (soup_of bytes))
 unfolding soup_of
-soup_of-few bytes few = ap (λ test. cond test (Err (TooMany MeshBytes most_mesh_bytes)) (soup (limited (off_reading bytes)))) (le-ltb most_mesh_bytes (length bytes) few)
-
--- a mesh above the limit of bytes is too long
-pub soup_of-many : (bytes : List ℕ) → most_mesh_bytes < length bytes → soup_of bytes ≡ Err (TooMany MeshBytes most_mesh_bytes)
-unfolding soup_of
-soup_of-many bytes many = ap (λ test. cond test (Err (TooMany MeshBytes most_mesh_bytes)) (soup (limited (off_reading bytes)))) (lt-ltb most_mesh_bytes (length bytes) many)
-
--- what is answered of the bytes that were taken to the end is answered of the source
-pub gives_taken : (before after : Told) (bytes : List ℕ) (r : Result Soup MeshFault) → Takes before after bytes → IsAtEnd after → length bytes ≤ most_mesh_bytes → GivesSoup r (soup (limited (off_reading bytes))) → IfSome before (λ all. GivesSoup r (soup_of all))
-gives_taken None after bytes r t e few g = tt
-gives_taken (Some all) after bytes r t e few g =
-    let same : all ≡ bytes = taken_all (Some all) after bytes t e in
-    subst (λ xs. GivesSoup r (soup_of xs)) (sym same) (subst (GivesSoup r) (sym (soup_of-few bytes few)) g)
-
--- what is answered of a source that can't be taken whole
-pub gives_fault : (before : Told) (fault : TakeFault) → (fault ≡ take.TooMany → IsLongerThan before most_mesh_bytes) → IfSome before (λ all. GivesSoup (Err (fault_of_take fault)) (soup_of all))
-gives_fault None fault long = tt
-gives_fault (Some all) take.Failed long = tt
-gives_fault (Some all) take.TooMany long = soup_of-many all (long refl)
-gives_fault (Some all) take.Memory long = tt
+gives_behind_front before None front is_ply r taken end told gives =
+    subst (λ left. IfSome left (λ bytes. GivesSoup r (soup (limited (reading_in (begins_as_ply bytes) bytes))))) (sym taken) tt
+gives_behind_front before (Some rest) front is_ply r taken end told gives =
+    let same : is_ply ≡ begins_as_ply (front ++ rest) = told ∙ ap (λ first. bytes_eq first (codes "ply")) (sym (same_front front rest end)) in
+    subst (λ left. IfSome left (λ bytes. GivesSoup r (soup (limited (reading_in (begins_as_ply bytes) bytes))))) (sym taken)
+    (subst (λ test. GivesSoup r (soup (limited (reading_in test (front ++ rest))))) same gives)

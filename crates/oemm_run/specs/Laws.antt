@@ -10,6 +10,7 @@ use Rattle.mesh_data.specs.declared.items.MeshFault.{MeshFault}
 use Rattle.mesh_data.specs.Manifold.{IsManifold, Audits}
 use Rattle.mesh_data.specs.Mesh.{Mesh, start}
 use Rattle.mesh_data.specs.Work.{play}
+use Rattle.mesh_out.specs.declared.form.Form.{Form}
 use Rattle.mesh_out.specs.MeshBytes.{mesh_bytes}
 use Rattle.commit_journal.specs.Text.{journal_text}
 use Rattle.edit_script.specs.declared.fault.ScriptFault.{ScriptFault}
@@ -21,7 +22,7 @@ use Rattle.oemm_run.specs.Phases.{end_of_mesh, end_of_script}
 use Rattle.oemm_run.specs.Report.{summary}
 use Rattle.oemm_run.specs.Run.{one_leaf, core_limit, AreRun}
 use Rattle.oemm_run.specs.Soup.{soup_of}
-use Rattle.oemm_run.specs.Words.{order_of}
+use Rattle.oemm_run.specs.Words.{order_of, form_of}
 
 -- the command ended so, or for want of memory
 abbrev pub EndsAs : End → End → Type 0
@@ -46,19 +47,19 @@ pub record HasGoodInput (words : List (List ℕ)) (before : Outside) (s : Soup) 
   pub told : before.script.left ≡ Some bytes
   pub script : script_of bytes ≡ Ok tasks
 
--- The mesh that was written is the one that the journal's tasks leave, done one by one on the start mesh. The journal
--- has the script's tasks, each once and in their order, with the replies of that point. Nothing else was written.
-pub record WritesPlay (before after : Outside) (s : Soup) (tasks : List Task) : Type 0 where
+-- The mesh that was written, in this format, is the one that the journal's tasks leave, done one by one on the start mesh.
+-- The journal has the script's tasks, each once and in their order, with the replies of that point. Nothing else was written.
+pub record WritesPlay (form : Form) (before after : Outside) (s : Soup) (tasks : List Task) : Type 0 where
   pub mesh : Mesh
   pub journal : List Entry
   pub done : map (λ e. e.task) journal ≡ tasks
   pub one_by_one : play one_leaf core_limit (start s) (map (λ e. e.task) journal) ≡ record { mesh = mesh; journal = journal }
-  pub out : Wrote before.out after.out (mesh_bytes mesh)
+  pub out : Wrote before.out after.out (mesh_bytes form mesh)
   pub report : Wrote before.report after.report (journal_text 0 journal ++ summary mesh)
 
 -- a run that ends Done on input that is told has written the play of the script
 pub record Headline (words : List (List ℕ)) (before after : Outside) (end : End) : Type 0 where
-  pub writes : (s : Soup) (tasks : List Task) → HasGoodInput words before s tasks → end ≡ Done → WritesPlay before after s tasks
+  pub writes : (s : Soup) (tasks : List Task) → HasGoodInput words before s tasks → end ≡ Done → WritesPlay (form_of words) before after s tasks
 
 -- where the input is good and nothing fails, all is done
 abbrev pub IsComplete : List (List ℕ) → Outside → Outside → End → Type 0

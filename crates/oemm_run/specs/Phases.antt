@@ -1,10 +1,12 @@
 -- What the phases of a run give.
-use Rattle.std.specs.Prelude.{◌≡◌, ℕ, ◌≤◌, Bool, List}
+use Rattle.std.specs.Prelude.{◌≡◌, ℕ, ◌≤◌, Bool, List, length, All}
 use Rattle.fault_counts.specs.Told.{Told}
 use Rattle.mesh_data.specs.declared.items.MeshFault.{MeshFault}
 use Rattle.mesh_data.specs.declared.items.MeshFault.TheVariants as mesh
+use Rattle.mesh_data.specs.Triangles.{IsBelow}
 use Rattle.edit_script.specs.declared.fault.ScriptFault.{ScriptFault}
 use Rattle.edit_script.specs.declared.fault.ScriptFault.TheVariants as script
+use Rattle.oemm_run.specs.declared.play.Texts.{Texts}
 use Rattle.oemm_run.specs.declared.shape.ShapeFault.{ShapeFault}
 use Rattle.oemm_run.specs.declared.shape.ShapeFault.TheVariants as shape
 use Rattle.oemm_run.specs.declared.end.End.{End}
@@ -33,6 +35,12 @@ end_of_script script.Memory = Memory
 abbrev pub output : Told → ℕ → Bool → Output
 output held faults finished = record { held = held; faults = faults; finished = finished }
 
+-- a mesh's points and faces are few enough to be written
+pub record IsWritable (texts : Texts) : Type 0 where
+  pub points : length texts.points ≤ 16777216
+  pub faces : length texts.faces ≤ 16777216
+  pub below : All (IsBelow 16777217) texts.faces
+
 -- both counts of faults have not fallen
 pub record KeepsBoth (out out' report report' : Output) : Type 0 where
   pub out_kept : out.faults ≤ out'.faults
@@ -43,6 +51,7 @@ abbrev pub WritesTexts : Output → Output → Output → Output → List ℕ �
 WritesTexts out out' report report' mesh text Done = Wrote out out' mesh × Wrote report report' text
 WritesTexts out out' report report' mesh text WriteOut = FailedIn out out' mesh × (report' ≡ report)
 WritesTexts out out' report report' mesh text WriteReport = Wrote out out' mesh × FailedIn report report' text
+WritesTexts out out' report report' mesh text Memory = (out' ≡ out) × (report' ≡ report)
 WritesTexts out out' report report' mesh text end = ⊥
 
 abbrev pub WritesGive : Output → Output → Output → Output → List ℕ → List ℕ → End → Type 0

@@ -23,7 +23,7 @@ use Rattle.oemm_run.specs.declared.end.End.TheVariants.{Done, Usage, ReadMesh, R
 use Rattle.oemm_run.specs.Outside.{Outside, Wrote, FailedIn, IsUntouched}
 use Rattle.oemm_run.specs.Report.{summary}
 use Rattle.oemm_run.specs.Soup.{soup_of}
-use Rattle.oemm_run.specs.Words.{order_of}
+use Rattle.oemm_run.specs.Words.{order_of, form_of}
 
 -- an octree of one leaf
 abbrev pub one_leaf : List Cell
@@ -77,14 +77,13 @@ pub record HasScriptFault (words : List (List ℕ)) (before : Outside) (fault : 
   pub earlier : HasManifold words before soup
   pub script : IfSome before.script.left (λ bytes. script_of bytes ≡ Err fault)
 
--- both sources were read to their ends, and all was written: the mesh that the tasks leave, and the report
+-- the script was read to its end, and all was written: the mesh that the tasks leave, and the report
 pub record IsDone (words : List (List ℕ)) (before after : Outside) : Type 0 where
   pub soup : Soup
   pub tasks : List Task
   pub earlier : HasScript words before soup tasks
-  pub mesh_end : IsAtEnd after.mesh.left
   pub script_end : IsAtEnd after.script.left
-  pub out : Wrote before.out after.out (mesh_bytes (played soup tasks).mesh)
+  pub out : Wrote before.out after.out (mesh_bytes (form_of words) (played soup tasks).mesh)
   pub report : Wrote before.report after.report (report_text (played soup tasks))
 
 -- the mesh is a manifold, and then the script's source failed
@@ -98,7 +97,7 @@ pub record FailsAtOut (words : List (List ℕ)) (before after : Outside) : Type 
   pub soup : Soup
   pub tasks : List Task
   pub earlier : HasScript words before soup tasks
-  pub out : FailedIn before.out after.out (mesh_bytes (played soup tasks).mesh)
+  pub out : FailedIn before.out after.out (mesh_bytes (form_of words) (played soup tasks).mesh)
   pub report : after.report ≡ before.report
 
 -- the mesh was written, and then the report couldn't be
@@ -106,7 +105,7 @@ pub record FailsAtReport (words : List (List ℕ)) (before after : Outside) : Ty
   pub soup : Soup
   pub tasks : List Task
   pub earlier : HasScript words before soup tasks
-  pub out : Wrote before.out after.out (mesh_bytes (played soup tasks).mesh)
+  pub out : Wrote before.out after.out (mesh_bytes (form_of words) (played soup tasks).mesh)
   pub report : FailedIn before.report after.report (report_text (played soup tasks))
 
 -- what a run gives

@@ -1,16 +1,16 @@
 -- The points and faces of a mesh's source, up to the limits of this command.
-use Rattle.std.specs.Prelude.{◌≡◌, ℕ, ◌≤◌, ◌++◌, nat_lt, List, ◌∷◌, length, All, Option, Some, None, Result, Ok, Err, IfSome, ⊤, if◌then◌else◌}
+use Rattle.std.specs.Prelude.{◌≡◌, ℕ, ◌≤◌, ◌++◌, nat_lt, Bool, List, ◌∷◌, length, take, codes, All, Option, Some, None, Result, Ok, Err, IfSome, ⊤, if◌then◌else◌}
+use Rattle.std.specs.Str.{bytes_eq}
 use Rattle.mesh_data.specs.declared.items.Item.{Item}
 use Rattle.mesh_data.specs.declared.items.Item.TheVariants.{Counts}
 use Rattle.mesh_data.specs.declared.items.MeshFault.{MeshFault}
 use Rattle.mesh_data.specs.declared.items.MeshFault.TheVariants.{Read, Text, TooMany, Memory}
-use Rattle.mesh_data.specs.declared.items.What.TheVariants.{Vertices, MeshBytes}
+use Rattle.mesh_data.specs.declared.items.What.TheVariants.{Vertices}
 use Rattle.mesh_data.specs.Triangles.{IsProper, IsBelow}
 use Rattle.mesh_data.specs.Reading.{Reading, Given, fault_alone, most_items, soup}
 use Rattle.mesh_data.specs.declared.geometry.Soup.{Soup}
 use Rattle.off_reader.specs.Grammar.{off_reading}
-use Rattle.oemm_io.specs.declared.whole.TakeFault.{TakeFault}
-use Rattle.oemm_io.specs.declared.whole.TakeFault.TheVariants as take
+use Rattle.ply_reader.specs.Mesh.{ply_reading}
 
 -- the greatest number of vertices of a mesh
 abbrev pub most_vertices : ℕ
@@ -58,17 +58,14 @@ abbrev pub GivesSoup : Result Soup MeshFault → Result Soup MeshFault → Type 
 GivesSoup (Ok s) reading = reading ≡ Ok s
 GivesSoup (Err fault) reading = GivesMeshFault fault reading
 
--- the greatest number of bytes of a mesh
-abbrev pub most_mesh_bytes : ℕ
-most_mesh_bytes = 67108864
+-- whether the first three bytes are ply
+abbrev pub begins_as_ply : List ℕ → Bool
+begins_as_ply bytes = bytes_eq (take 3 bytes) (codes "ply")
 
--- The points and faces of a mesh's bytes, or the first fault. The limit of bytes stands before each fault of the text.
+-- what a mesh's bytes say in binary PLY, or in OFF
+abbrev pub reading_in : Bool → List ℕ → Reading
+reading_in is_ply bytes = if is_ply then ply_reading bytes else off_reading bytes
+
+-- the points and faces of a mesh's bytes in the format that the first of them tell, or the first fault
 unfoldable pub soup_of : List ℕ → Result Soup MeshFault
-soup_of bytes =
-    if nat_lt most_mesh_bytes (length bytes) then Err (TooMany MeshBytes most_mesh_bytes) else soup (limited (off_reading bytes))
-
--- how a fault of a source that can't be taken whole is told
-abbrev pub fault_of_take : TakeFault → MeshFault
-fault_of_take take.Failed = Read
-fault_of_take take.TooMany = TooMany MeshBytes most_mesh_bytes
-fault_of_take take.Memory = Memory
+soup_of bytes = soup (limited (reading_in (begins_as_ply bytes) bytes))

@@ -2,6 +2,7 @@
 #![tactic(auto)]
 
 mod end;
+mod front;
 mod io;
 mod mesh_source;
 mod orders;

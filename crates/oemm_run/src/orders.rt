@@ -1,6 +1,7 @@
 //! What the words of the command line ask for.
 
 use mesh_data::CommandWord;
+use mesh_out::Form;
 use std::alloc::AllocError;
 
 /// What the words ask for.
@@ -11,6 +12,8 @@ pub enum Order {
         mesh: CommandWord,
         script: CommandWord,
         out: CommandWord,
+        /// The format of the mesh that is written, by the ending of `out`.
+        form: Form,
         /// The greatest number of vertices of a leaf of the octree that can be cut no further.
         cap: u32,
         /// The greatest number of leaves of a task's core.

@@ -1,13 +1,17 @@
 //! The phases of a run.
 
 ghost use Rattle.std.specs.Prelude.{◌≡◌};
-ghost use Rattle.oemm_run.specs.Phases.{end_of_mesh, end_of_shape, end_of_script, WritesGive, output};
+ghost use Rattle.mesh_out.specs.Form.{form_text};
+ghost use Rattle.oemm_run.specs.Phases.{end_of_mesh, end_of_shape, end_of_script, IsWritable, WritesGive, output};
 
 use crate::end::End;
+use crate::play::Texts;
 use crate::shape::ShapeFault;
 use edit_script::ScriptFault;
-use mesh_data::{Bytes, MeshFault};
+use mesh_data::MeshFault;
+use mesh_out::{Form, OutFault, write_mesh};
 use oemm_io::{Sink, put_all};
+use std::alloc::Global;
 
 /// How a run ends whose mesh can't be read.
 pub fn end_of_mesh(fault: MeshFault) -> End
@@ -43,17 +47,27 @@ pub fn end_of_script(fault: ScriptFault) -> End
     }
 }
 
-/// Writes the mesh, all of it, and then the report.
-pub fn write_both<O: Sink, R: Sink>(out: O, report: R, mesh: &[u8], text: &[u8]) -> (O, R, End)
+/// Writes the mesh, all of it, and then the report. Where the memory to write the mesh can't be had, nothing is written.
+pub fn write_both<O: Sink, R: Sink>(
+    alloc: Global,
+    out: O,
+    report: R,
+    form: Form,
+    texts: &Texts,
+) -> (O, R, End)
+    requires { IsWritable texts.now }
     ensures { WritesGive (output (O.held out) (O.faults out) (O.finished out)) (output (O.held result.0) (O.faults result.0) (O.finished result.0))
         (output (R.held report) (R.faults report) (R.finished report)) (output (R.held result.1) (R.faults result.1) (R.finished result.1))
-        mesh.now text.now result.2 }
+        (form_text form texts.now.points texts.now.faces) texts.now.report result.2 }
 {
-    let (out, written) = put_all(out, mesh);
-    if written.is_err() {
-        return (out, report, End::WriteOut);
+    let points = texts.points.slice();
+    let (out, written) = write_mesh(alloc, out, form, points, texts.faces.slice());
+    match written {
+        Ok(()) => {}
+        Err(OutFault::Write) => return (out, report, End::WriteOut),
+        Err(OutFault::Memory) => return (out, report, End::Memory),
     }
-    let (report, written) = put_all(report, text);
+    let (report, written) = put_all(report, texts.report.slice());
     if written.is_err() {
         return (out, report, End::WriteReport);
     }

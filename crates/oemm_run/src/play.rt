@@ -1,27 +1,32 @@
 //! The tasks of a script, and what is written of them.
 
-ghost use Rattle.std.specs.Prelude.{◌≡◌, ◌≤◌, ◌^◌, ◌++◌, length, IfOk, OnOk};
+ghost use Rattle.std.specs.Prelude.{◌≡◌, ◌≤◌, ◌^◌, ◌++◌, length, All, IfOk, OnOk};
 ghost use Rattle.std.specs.String.{string_bytes};
+ghost use Rattle.mesh_data.specs.Mesh.{points_of};
+ghost use Rattle.mesh_data.specs.Triangles.{IsBelow};
 ghost use Rattle.mesh_data.specs.Work.{play};
-ghost use Rattle.mesh_out.specs.MeshBytes.{mesh_bytes};
+ghost use Rattle.mesh_out.specs.MeshBytes.{faces_of};
 ghost use Rattle.commit_journal.specs.Text.{journal_text};
+ghost use Rattle.oemm_run.specs.Phases.{IsWritable};
 ghost use Rattle.oemm_run.specs.Report.{summary};
 ghost use Rattle.oemm_run.specs.Run.{one_leaf, core_limit, report_text};
 
 use crate::summary::put_summary;
 use commit_journal::journal_text;
-use mesh_data::{Bytes, Cell, Cells, Entries, List, Task};
+use mesh_data::{Bytes, Cell, Cells, Entries, List, Points, Task, Tris};
 use mesh_model::PlainMesh;
-use mesh_out::{off_bytes, renumber};
+use mesh_out::renumber;
 use std::alloc::{AllocError, Global};
 
 /// The greatest number of leaves of a task's core.
 const CORE_LIMIT: u32 = 64;
 
-/// The bytes of the mesh that the tasks leave, and the report.
+/// What is written of the mesh that the tasks leave.
 #[derive(Drop)]
 pub struct Texts {
-    pub mesh: Bytes,
+    pub points: Points,
+    /// The faces, with the places of their vertices among the points.
+    pub faces: Tris,
     pub report: Bytes,
 }
 
@@ -58,15 +63,15 @@ fn play_tasks(
     Ok(List::from_vec(journal))
 }
 
-/// The file of a mesh.
-fn file_of(alloc: Global, mesh: &PlainMesh) -> Result<Bytes, AllocError>
-    ensures { IfOk result (λ bytes. bytes ≡ mesh_bytes mesh.now) }
+/// The faces of a mesh's file.
+fn faces_of(alloc: Global, mesh: &PlainMesh) -> Result<Tris, AllocError>
+    ensures faces { IfOk result (λ faces. faces ≡ faces_of mesh.now) }
+    ensures few { IfOk result (λ faces. length faces ≤ 16777216) }
+    ensures below { IfOk result (All (IsBelow 16777217)) }
 {
     let names = mesh.names(alloc)?;
-    let points = mesh.points(alloc)?;
     let tris = mesh.tris(alloc)?;
-    let faces = renumber(alloc, &names, tris.slice())?;
-    off_bytes(alloc, points.slice(), faces.slice())
+    renumber(alloc, &names, tris.slice())
 }
 
 /// The line of a mesh's counts.
@@ -94,16 +99,19 @@ fn report_of(alloc: Global, mesh: &PlainMesh, journal: &Entries) -> Result<Bytes
     Ok(List::from_vec(text))
 }
 
-/// Does the tasks on the mesh, and answers what is written of them. All memory is taken here.
+/// Does the tasks on the mesh, and answers what is written of them.
 pub fn texts_of(alloc: Global, mut mesh: PlainMesh, tasks: &[Task]) -> Result<Texts, AllocError>
     requires { length tasks.now ≤ 2 ^ 32 }
-    ensures mesh { IfOk result (λ texts. texts.mesh ≡ mesh_bytes (play one_leaf core_limit mesh tasks.now).mesh) }
+    ensures points { IfOk result (λ texts. texts.points ≡ points_of (play one_leaf core_limit mesh tasks.now).mesh) }
+    ensures faces { IfOk result (λ texts. texts.faces ≡ faces_of (play one_leaf core_limit mesh tasks.now).mesh) }
+    ensures writable { IfOk result IsWritable }
     ensures report { IfOk result (λ texts. texts.report ≡ report_text (play one_leaf core_limit mesh tasks.now)) }
 {
     let cells = one_leaf(alloc)?;
     let journal = play_tasks(alloc, &mut mesh, &cells, tasks)?;
     Ok(Texts {
-        mesh: file_of(alloc, &mesh)?,
+        points: mesh.points(alloc)?,
+        faces: faces_of(alloc, &mesh)?,
         report: report_of(alloc, &mesh, &journal)?,
     })
 }

@@ -102,6 +102,97 @@ fn empty_mesh_and_tetrahedron(rt: HostRuntime) -> Result<(), Fail> {
     Ok(())
 }
 
+const TRIANGLE: &str = "OFF # a corner\n3 1\n\n0 0 0\n+4.0 0 0\n0 4. -0\n3 0 1 2 # a face\nno more";
+
+const TRIANGLE_PLY: &[u8] =
+    b"ply\nformat binary_little_endian 1.0\nelement vertex 3\nproperty short x\nproperty short y\nproperty short z\nelement face 1\nproperty list uchar int vertex_indices\nend_header\n\x00\x00\x00\x00\x00\x00\x04\x00\x00\x00\x00\x00\x00\x00\x04\x00\x00\x00\x03\x00\x00\x00\x00\x01\x00\x00\x00\x02\x00\x00\x00";
+
+#[test]
+fn a_triangle_is_written_in_ply(rt: HostRuntime) -> Result<(), Fail> {
+    let words = ["run", "m.off", "s.txt", "o.ply"];
+    for piece in [1, 7, 4096] {
+        let done = run_on(
+            rt.alloc(),
+            &words,
+            TRIANGLE.as_bytes(),
+            "# no task\n",
+            piece,
+            NONE,
+        )?;
+        assert_eq!(rt; done.end, End::Done);
+        assert_eq!(rt; done.out.as_slice(), TRIANGLE_PLY);
+        assert_eq!(rt;
+            done.report.as_slice(),
+            b"vertices 3 faces 1 euler 1 border 3\n".as_slice()
+        );
+    }
+    Ok(())
+}
+
+const HAND_MADE: &[u8] =
+    b"ply\nformat binary_big_endian 1.0\ncomment made by hand\nelement vertex 3\nproperty short x\nproperty short y\nproperty short z\nproperty float nx\nelement face 1\nproperty list uchar int vertex_index\nend_header\n\x00\x00\x00\x00\x00\x00\x00\x00\x00\x00\x00\x04\x00\x00\x00\x00\x00\x00\x00\x00\x00\x00\x00\x04\x00\x00\x00\x00\x00\x00\x03\x00\x00\x00\x00\x00\x00\x00\x01\x00\x00\x00\x02";
+
+#[test]
+fn a_mesh_with_the_high_bytes_first(rt: HostRuntime) -> Result<(), Fail> {
+    for piece in [1, 7, 4096] {
+        let done = run_on(rt.alloc(), &RUN, HAND_MADE, "", piece, NONE)?;
+        assert_eq!(rt; done.end, End::Done);
+        assert_eq!(rt;
+            done.out.as_slice(),
+            b"OFF\n3 1 0\n0 0 0\n4 0 0\n0 4 0\n3 0 1 2\n".as_slice()
+        );
+    }
+    Ok(())
+}
+
+#[test]
+fn a_cut_binary_mesh(rt: HostRuntime) -> Result<(), Fail> {
+    for len in [0usize, 4, 71, 202, 203, 243, 245] {
+        let told = run_on(rt.alloc(), &RUN, &HAND_MADE[..len], "", 7, NONE)?;
+        let at = len as u64;
+        let end = End::MeshText {
+            at,
+            why: MeshWhy::Cut,
+        };
+        assert_eq!(rt; told.end, end, "{len}");
+    }
+    let two = run_on(rt.alloc(), &RUN, &HAND_MADE[..2], "", 7, NONE)?;
+    let head = End::MeshText {
+        at: 0,
+        why: MeshWhy::Head,
+    };
+    assert_eq!(rt; two.end, head);
+    Ok(())
+}
+
+#[test]
+fn a_line_that_is_too_long(rt: HostRuntime) -> Result<(), Fail> {
+    let line = vec![in rt.alloc(); b'#'; 65537]?;
+    let end = End::Limit {
+        what: What::LineBytes,
+        count: 65537,
+    };
+    let mesh = run_on(rt.alloc(), &RUN, &line, "", 4096, NONE)?;
+    assert_eq!(rt; mesh.end, end);
+    let whole = run_on(rt.alloc(), &RUN, &line[1..], "", 4096, NONE)?;
+    assert_eq!(rt;
+        whole.end,
+        End::MeshText {
+            at: 65536,
+            why: MeshWhy::Cut
+        }
+    );
+    Ok(())
+}
+
+#[test]
+fn a_second_take_that_fails(rt: HostRuntime) -> Result<(), Fail> {
+    let failing = Failing { mesh: 2, ..NONE };
+    let told = run_on(rt.alloc(), &RUN, TETRAHEDRON.as_bytes(), MOVES, 1, failing)?;
+    assert_eq!(rt; told.end, End::ReadMesh);
+    Ok(())
+}
+
 const OCTAHEDRON: &str =
     "OFF\n6 8 0\n4 0 0\n-4 0 0\n0 4 0\n0 -4 0\n0 0 4\n0 0 -4\n3 0 2 4\n3 2 1 4\n3 1 3 4\n3 3 0 4\n3 2 0 5\n3 1 2 5\n3 3 1 5\n3 0 3 5\n";
 
@@ -181,8 +272,16 @@ fn words_in_no_form(rt: HostRuntime) -> Result<(), Fail> {
 fn faults_of_the_mesh(rt: HostRuntime) -> Result<(), Fail> {
     for (mesh, at, why) in [
         ("", 0, MeshWhy::Cut),
-        ("ply\n", 0, MeshWhy::Head),
+        ("pl", 0, MeshWhy::Head),
+        ("plyx\n", 0, MeshWhy::Head),
+        ("ply\n", 4, MeshWhy::Cut),
+        ("ply\nformat ascii 1.0\n", 4, MeshWhy::Ascii),
         ("OFF\n1\n", 4, MeshWhy::Words),
+        (
+            "OFF\n2 0 0\n0 0 0\n1.5 0 0\n",
+            16,
+            MeshWhy::NotInteger { vertex: 1 },
+        ),
         ("OFF\n1 x\n", 4, MeshWhy::Number),
         (
             "OFF\n1 0\n0 0 32768\n",

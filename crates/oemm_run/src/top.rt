@@ -11,7 +11,7 @@ use crate::mesh_source::read_mesh;
 use crate::phases::{end_of_mesh, end_of_script, end_of_shape, write_both};
 use crate::play::texts_of;
 use crate::shape::start_mesh;
-use crate::words::are_run;
+use crate::words::form_of;
 use edit_script::read_script;
 use mesh_data::CommandWords;
 use oemm_io::{Sink, Source};
@@ -27,9 +27,9 @@ fn run_phases<M: Source, S: Source, O: Sink, R: Sink>(
     ensures leaves { LeavesSinks (⟦<Io<M, S, O, R> as Seen>⟧.outside io) (⟦<Io<M, S, O, R> as Seen>⟧.outside result.0) result.1 }
     ensures kept { KeepsCounts (⟦<Io<M, S, O, R> as Seen>⟧.outside io) (⟦<Io<M, S, O, R> as Seen>⟧.outside result.0) }
 {
-    if !are_run(words) {
+    let Some(form) = form_of(words) else {
         return (io, End::Usage);
-    }
+    };
     let (mesh, soup) = read_mesh(alloc, io.mesh);
     let io = Io { mesh, ..io };
     let soup = match soup {
@@ -49,12 +49,7 @@ fn run_phases<M: Source, S: Source, O: Sink, R: Sink>(
     let Ok(texts) = texts_of(alloc, plain, read.tasks.slice()) else {
         return (io, End::Memory);
     };
-    let (out, report, end) = write_both(
-        io.out,
-        io.report,
-        texts.mesh.slice(),
-        texts.report.slice(),
-    );
+    let (out, report, end) = write_both(alloc, io.out, io.report, form, &texts);
     (Io { out, report, ..io }, end)
 }
 

@@ -1,10 +1,11 @@
 //! The command line.
 
-ghost use Rattle.std.specs.Prelude.{◌≡◌, ℕ, Some, None, IfOk, Err, ◌≢◌, is_some};
-ghost use Rattle.oemm_run.specs.Words.{is_plain, is_run, order_of, roles_of};
+ghost use Rattle.std.specs.Prelude.{◌≡◌, ◌≢◌, Some, None, IfOk, IsSome, Err, MatchOption};
+ghost use Rattle.oemm_run.specs.Words.{is_plain, form_named, run_form, order_of, form_of, roles_of};
 
 use crate::orders::{Order, Roles, WordsFault};
 use mesh_data::{CommandWord, CommandWords, Copied};
+use mesh_out::Form;
 use std::alloc::Global;
 
 /// Reads what the words ask for.
@@ -15,18 +16,22 @@ pub fn read_words(alloc: Global, words: &CommandWords) -> Result<Order, WordsFau
     ensures order { IfOk result (λ order. order_of words.now ≡ Some order) }
     ensures usage { result ≡ Err WordsFault.Usage → order_of words.now ≡ None }
 {
-    match words.slice() {
-        [command, mesh, script, out] if is_run(command, mesh, script, out) => Ok(Order::Run {
-            mesh: mesh.copy(alloc)?,
-            script: script.copy(alloc)?,
-            out: out.copy(alloc)?,
-            cap: 4096,
-            core: 64,
-            cache: 32,
-            workers: 1,
-        }),
-        _ => Err(WordsFault::Usage),
-    }
+    let [command, mesh, script, out] = words.slice() else {
+        return Err(WordsFault::Usage);
+    };
+    let Some(form) = run_form(command, mesh, script, out) else {
+        return Err(WordsFault::Usage);
+    };
+    Ok(Order::Run {
+        mesh: mesh.copy(alloc)?,
+        script: script.copy(alloc)?,
+        out: out.copy(alloc)?,
+        form,
+        cap: 4096,
+        core: 64,
+        cache: 32,
+        workers: 1,
+    })
 }
 
 /// The places of the words that name files, and the number of workers.
@@ -38,31 +43,42 @@ pub fn roles(words: &CommandWords) -> Result<Roles, WordsFault>
     ensures usage { result ≡ Err WordsFault.Usage → roles_of words.now ≡ None }
     ensures no_memory { result ≢ Err WordsFault.Memory }
 {
-    match words.slice() {
-        [command, mesh, script, out] if is_run(command, mesh, script, out) => Ok(Roles {
+    match form_of(words) {
+        Some(_) => Ok(Roles {
             mesh: Some(1),
             script: Some(2),
             out: Some(3),
             store: None,
             workers: 1,
         }),
-        _ => Err(WordsFault::Usage),
+        None => Err(WordsFault::Usage),
     }
 }
 
-fn is_run(
+/// The format that is to be written, if the words ask for a run.
+pub fn form_of(words: &CommandWords) -> Option<Form>
+    ensures { MatchOption result (order_of words.now ≡ None)
+        (λ form. IsSome (order_of words.now) × (form_of words.now ≡ form)) }
+{
+    match words.slice() {
+        [command, mesh, script, out] => run_form(command, mesh, script, out),
+        _ => None,
+    }
+}
+
+fn run_form(
     command: &CommandWord,
     mesh: &CommandWord,
     script: &CommandWord,
     out: &CommandWord,
-) -> bool
-    ensures { result ≡ is_run command.now mesh.now script.now out.now }
+) -> Option<Form>
+    ensures { result ≡ run_form command.now mesh.now script.now out.now }
 {
-    command.as_str() == "run"
-        && is_plain(mesh)
-        && is_plain(script)
-        && is_plain(out)
-        && out.as_str().as_bytes().ends_with(b".off")
+    if command.as_str() == "run" && is_plain(mesh) && is_plain(script) && is_plain(out) {
+        form_named(out)
+    } else {
+        None
+    }
 }
 
 fn is_plain(word: &CommandWord) -> bool
@@ -72,12 +88,16 @@ fn is_plain(word: &CommandWord) -> bool
     text == "-" || !text.as_bytes().starts_with(b"-")
 }
 
-/// Whether the words ask for a run.
-pub fn are_run(words: &CommandWords) -> bool
-    ensures { result ≡ is_some (order_of words.now) }
+/// The format that the ending of a word names, if it names one.
+fn form_named(word: &CommandWord) -> Option<Form>
+    ensures { result ≡ form_named word.now }
 {
-    match words.slice() {
-        [command, mesh, script, out] => is_run(command, mesh, script, out),
-        _ => false,
+    let text = word.as_str().as_bytes();
+    if text.ends_with(b".off") {
+        Some(Form::Off)
+    } else if text.ends_with(b".ply") {
+        Some(Form::Ply)
+    } else {
+        None
     }
 }

@@ -2,7 +2,6 @@ use Rattle.std.proofs.Common.{◌≡◌, ◌∙◌, List, Ok, Err, IfSome, OnOk,
 use Rattle.mesh_data.specs.declared.edits.Task.{Task}
 use Rattle.mesh_data.specs.Mesh.{Mesh}
 use Rattle.mesh_data.specs.Work.{play}
-use Rattle.mesh_out.specs.MeshBytes.{mesh_bytes}
 use Rattle.fault_counts.specs.Told.{IsAtEnd}
 use Rattle.edit_script.specs.Grammar.{script_of}
 use Rattle.edit_script.specs.Script.{GivesScript}
@@ -10,7 +9,7 @@ use Rattle.oemm_run.specs.Run.{played, report_text, one_leaf, core_limit}
 use Rattle.oemm_run.specs.Shape.{GivesStart}
 use Rattle.oemm_run.specs.Soup.{soup_of, GivesSoup}
 use Rattle.edit_script.specs.declared.fault.ScriptFault.{ScriptFault}
-use Rattle.oemm_run.proofs.RunLaws.{gives_written, gives_script_fault}
+use Rattle.oemm_run.proofs.RunLaws.{gives_written, gives_script_fault, written_mesh}
 use Rattle.oemm_run.proofs.top.run_phases.Goals as goal
 
 pub returns-clause-gives : goal.returns-clause-gives
@@ -24,12 +23,12 @@ returns-clause-gives g c =
     let begun = subst (GivesStart soup) c.in-Ok-start_mesh.is c.start_mesh.ensures in
     let script_told = subst (λ r. IfSome script_left (λ bytes. GivesScript r (script_of bytes))) c.in-Ok-read.is c.read_script-script.ensures.told in
     let script_read = subst (λ (ts : List Task). IfSome script_left (λ bytes. script_of bytes ≡ Ok ts)) (sym c.slice.ensures) script_told in
-    gives_written c.args.words.now _ _ c.slice-2.result.now c.slice-3.result.now soup tasks c.write_both-out.result.2
+    gives_written c.args.words.now _ _ _ c.in-Ok-texts_of.texts.report soup tasks c.write_both-out.result.2
     (record { earlier = record { earlier = record { run = search rules; mesh = mesh_read }; manifold = begun.1 }; script = script_read })
-    (subst (λ r. OnOk r (IsAtEnd (g.M.Source.left c.read_mesh-mesh.result.0))) c.in-Ok.is c.read_mesh-mesh.ensures.end)
     (subst (λ r. OnOk r (IsAtEnd (g.S.Source.left c.read_script-script.result.0))) c.in-Ok-read.is c.read_script-script.ensures.ok_end)
-    (c.slice-2.ensures ∙ c.in-Ok-texts_of.ensures.mesh ∙ ap (λ (m : Mesh). mesh_bytes (play one_leaf core_limit m tasks).mesh) begun.0)
-    (c.slice-3.ensures ∙ c.in-Ok-texts_of.ensures.report ∙ ap (λ (m : Mesh). report_text (play one_leaf core_limit m tasks)) begun.0)
+    (written_mesh c.args.words.now c.in-Some.form _ _ c.in-Ok-texts_of.texts.points c.in-Ok-texts_of.texts.faces c.in-Some.ensures.1 c.in-Ok-texts_of.ensures.points c.in-Ok-texts_of.ensures.faces
+    (ap (λ (m : Mesh). (play one_leaf core_limit m tasks).mesh) begun.0))
+    (c.in-Ok-texts_of.ensures.report ∙ ap (λ (m : Mesh). report_text (play one_leaf core_limit m tasks)) begun.0)
     c.write_both-out.ensures.1
 
 pub returns-in-Err-read-clause-gives : goal.returns-in-Err-read-clause-gives
