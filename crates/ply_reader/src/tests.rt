@@ -584,3 +584,88 @@ fn first_bytes(rt: HostRuntime) {
     assert!(rt; !is_ply(b"pl"));
     assert!(rt; !is_ply(b"OFF"));
 }
+
+/// The names of the whole types, and how many bytes a number of each has.
+const WHOLE_TYPES: [(&str, usize); 12] = [
+    ("char", 1),
+    ("int8", 1),
+    ("uchar", 1),
+    ("uint8", 1),
+    ("short", 2),
+    ("int16", 2),
+    ("ushort", 2),
+    ("uint16", 2),
+    ("int", 4),
+    ("int32", 4),
+    ("uint", 4),
+    ("uint32", 4),
+];
+
+/// Puts a number of so many bytes.
+fn push(text: &mut Vec<u8>, value: u8, size: usize, high_first: bool) -> Result<(), AllocError> {
+    for place in 0..size {
+        let is_low = if high_first {
+            size - place == 1
+        } else {
+            place == 0
+        };
+        text.push(if is_low { value } else { 0 })?;
+    }
+    Ok(())
+}
+
+/// A triangle whose x has the first type and whose list of indices has a count of the second type and items of the
+/// third, behind another list of these types.
+fn triangle_of(
+    alloc: Global,
+    order: &str,
+    types: [(&str, usize); 3],
+) -> Result<Vec<u8>, AllocError> {
+    let [(x, x_size), (count, count_size), (item, item_size)] = types;
+    let header = format!(in alloc;
+        "ply\nformat binary_{order}_endian 1.0\nelement vertex 3\nproperty {x} x\nproperty uchar y\nproperty uchar z\nelement face 1\nproperty list {count} {item} other\nproperty list {count} {item} vertex_index\nend_header\n"
+    )?;
+    let high_first = order == "big";
+    let mut text = header.as_bytes().to_vec(alloc)?;
+    for x in 0..3u8 {
+        push(&mut text, x, x_size, high_first)?;
+        text.extend_from_slice(&[7, 9])?;
+    }
+    push(&mut text, 1, count_size, high_first)?;
+    push(&mut text, 5, item_size, high_first)?;
+    push(&mut text, 3, count_size, high_first)?;
+    for index in [2u8, 0, 1] {
+        push(&mut text, index, item_size, high_first)?;
+    }
+    Ok(text)
+}
+
+/// Whether the triangle's points and its face are read.
+fn is_read(alloc: Global, text: &[u8]) -> Result<bool, AllocError> {
+    let mut reader = reader(alloc, text, 1000, 0)?;
+    let face = Item::Face(Tri {
+        a: Name(2),
+        b: Name(0),
+        c: Name(1),
+    });
+    let last = Item::Vertex(Point { x: 2, y: 7, z: 9 });
+    Ok(
+        gives(&mut reader, 3)
+            && reader.next() == Ok(Some(last))
+            && reader.next() == Ok(Some(face))
+            && ends(&mut reader, None),
+    )
+}
+
+#[test]
+fn whole_types(rt: HostRuntime) -> Result<(), Fail> {
+    for order in ["little", "big"] {
+        for (i, x) in WHOLE_TYPES.iter().enumerate() {
+            let count = WHOLE_TYPES[i * 5 % 12];
+            let item = WHOLE_TYPES[i * 7 % 12];
+            let text = triangle_of(rt.alloc(), order, [*x, count, item])?;
+            assert!(rt; is_read(rt.alloc(), &text)?, "{order} {}", x.0);
+        }
+    }
+    Ok(())
+}
