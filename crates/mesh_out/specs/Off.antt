@@ -1,6 +1,5 @@
--- The OFF text of points and faces.
-use Rattle.std.specs.Prelude.{ℕ, List, [], ◌∷◌, ◌++◌, length, codes}
-use Rattle.std.specs.List.{flat_map}
+-- The lines of an OFF text.
+use Rattle.std.specs.Prelude.{ℕ, List, [], ◌∷◌, ◌++◌, codes}
 use Rattle.std.specs.Fmt.{decimal, signed_decimal}
 use Rattle.mesh_data.specs.Texts.{line}
 use Rattle.mesh_data.specs.declared.geometry.Point.{Point}
@@ -17,8 +16,3 @@ point_line p = line (signed_decimal p.x ∷ signed_decimal p.y ∷ signed_decima
 -- a face's number of corners, and its three indices
 abbrev pub face_line : Tri → List ℕ
 face_line t = line (codes "3" ∷ decimal t.a ∷ decimal t.b ∷ decimal t.c ∷ [])
-
--- the OFF text of points and faces
-abbrev pub off_text : List Point → List Tri → List ℕ
-off_text points faces =
-    off_head (length points) (length faces) ++ (flat_map point_line points ++ flat_map face_line faces)

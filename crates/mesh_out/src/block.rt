@@ -2,6 +2,7 @@
 
 ghost use Rattle.std.specs.Prelude.{◌≡◌, ◌≤◌, ◌+◌, [], ◌∷◌, ◌++◌, length, drop, IfOk, OnOk};
 ghost use Rattle.fault_counts.specs.Counts.{HasCause};
+ghost use Rattle.oemm_io.specs.Whole.{StaysOpen};
 ghost use Rattle.mesh_out.specs.Block.{block_size, most_bytes};
 ghost use Rattle.mesh_out.specs.Stream.{PutsBefore};
 
@@ -36,6 +37,9 @@ impl Model for Block {
 
 impl Block {
     /// An empty block.
+    ///
+    /// # Errors
+    /// Want of memory.
     pub fn new(alloc: Global) -> Result<Block, AllocError>
         ensures { IfOk result (λ block. block ≡ record { left = []; used = 0 }) }
     {
@@ -103,6 +107,7 @@ impl Block {
 pub fn flush<O: Sink>(sink: &mut O, block: &mut Block) -> Result<(), Failed>
     ensures ok { OnOk result (block.new ≡ record { left = []; used = 0 }) }
     ensures puts { PutsBefore (O.held sink.old) (O.held sink.new) block.old.left block.new.left }
+    ensures open { StaysOpen (O.finished sink.old) (O.finished sink.new) }
     ensures cause { HasCause (O.faults sink.old) (O.faults sink.new) result }
 {
     while !block.left().is_empty() {
@@ -117,6 +122,7 @@ pub fn flush<O: Sink>(sink: &mut O, block: &mut Block) -> Result<(), Failed>
 pub fn make_room<O: Sink>(sink: &mut O, block: &mut Block) -> Result<(), Failed>
     ensures ok { OnOk result (block.new.used + most_bytes ≤ block_size) }
     ensures puts { PutsBefore (O.held sink.old) (O.held sink.new) block.old.left block.new.left }
+    ensures open { StaysOpen (O.finished sink.old) (O.finished sink.new) }
     ensures cause { HasCause (O.faults sink.old) (O.faults sink.new) result }
 {
     if block.used() <= BLOCK - MOST_BYTES {

@@ -11,7 +11,7 @@ mod stream;
 mod whole;
 
 pub use form::{Form, OutFault};
-pub use laws::form_laws;
+pub use laws::{form_laws, position_laws};
 pub use positions::renumber;
 pub use stream::MeshOut;
 pub use whole::write_mesh;

@@ -1,7 +1,9 @@
+//! Names as places among the names of a mesh.
+
 ghost use Rattle.std.specs.Prelude.{◌≡◌, ◌+◌, IfOk, length, map};
 ghost use Rattle.std.specs.List.{All};
 ghost use Rattle.mesh_data.specs.Triangles.{IsBelow};
-ghost use Rattle.mesh_out.specs.MeshBytes.{position_of, renumbered};
+ghost use Rattle.mesh_out.specs.MeshBytes.{position_of, renumbered, IsNamedBy};
 
 use mesh_data::{Name, NameSet, Tri, Tris};
 use std::alloc::{AllocError, Global};
@@ -32,9 +34,13 @@ fn renumber_all(alloc: Global, names: &NameSet, tris: &[Tri]) -> Result<Vec<Tri>
 
 /// The triangles with the positions of their names among the names, counted from 0. A name that isn't
 /// among them gets the number of names below it.
+///
+/// # Errors
+/// Want of memory.
 pub fn renumber(alloc: Global, names: &NameSet, tris: &[Tri]) -> Result<Tris, AllocError>
     ensures places { IfOk result (λ ts. ts ≡ map (renumbered names.now) tris.now) }
     ensures below { IfOk result (All (IsBelow (length names.now + 1))) }
+    ensures within { All (IsNamedBy names.now) tris.now → IfOk result (All (IsBelow (length names.now))) }
 {
     Ok(Tris::from_vec(renumber_all(alloc, names, tris)?))
 }

@@ -3,6 +3,7 @@
 ghost use Rattle.std.specs.Prelude.{◌≡◌, ◌<◌, ◌^◌, ◌++◌, true, is_ok, if◌then◌else◌, IfOk, IfErr, OnOk, OnErr};
 ghost use Rattle.fault_counts.specs.Counts.{HasCause};
 ghost use Rattle.fault_counts.specs.Told.{Puts, PutsFront};
+ghost use Rattle.oemm_io.specs.Whole.{StaysOpen};
 ghost use Rattle.mesh_out.specs.Form.{form_head, form_vertex, form_face};
 ghost use Rattle.mesh_out.specs.Stream.{after_vertex, after_face, PutsBefore};
 
@@ -81,7 +82,7 @@ impl<O> MeshOut<O> {
 }
 
 impl<O: Sink> MeshOut<O> {
-    /// Writes the next vertex.
+    /// Writes the next vertex. The sink is then finished only if it was before.
     ///
     /// # Errors
     /// `Failed` where the sink fails. The vertex is then still to be written.
@@ -92,6 +93,7 @@ impl<O: Sink> MeshOut<O> {
             (self.old.buffered ++ form_vertex self.old.plan.form p) self.new.buffered) }
         ensures err { OnErr result (PutsBefore (O.held self.old.sink) (O.held self.new.sink)
             self.old.buffered self.new.buffered) }
+        ensures open { StaysOpen (O.finished self.old.sink) (O.finished self.new.sink) }
         ensures cause { HasCause (O.faults self.old.sink) (O.faults self.new.sink) result }
     {
         make_room(&mut self.sink, &mut self.block)?;
@@ -100,7 +102,8 @@ impl<O: Sink> MeshOut<O> {
         Ok(())
     }
 
-    /// Writes the next face, which has these places of vertices, once all vertices are written.
+    /// Writes the next face, which has these places of vertices, once all vertices are written. The
+    /// sink is then finished only if it was before.
     ///
     /// # Errors
     /// `Failed` where the sink fails. The face is then still to be written.
@@ -115,6 +118,7 @@ impl<O: Sink> MeshOut<O> {
             (self.old.buffered ++ form_face self.old.plan.form (record { a = a; b = b; c = c })) self.new.buffered) }
         ensures err { OnErr result (PutsBefore (O.held self.old.sink) (O.held self.new.sink)
             self.old.buffered self.new.buffered) }
+        ensures open { StaysOpen (O.finished self.old.sink) (O.finished self.new.sink) }
         ensures cause { HasCause (O.faults self.old.sink) (O.faults self.new.sink) result }
     {
         make_room(&mut self.sink, &mut self.block)?;
@@ -131,12 +135,14 @@ impl<O: Sink> MeshOut<O> {
     /// Puts what waits, and finishes the sink, once all vertices and faces are written.
     ///
     /// # Errors
-    /// `Failed` where the sink fails. It then has a front of what waited.
+    /// `Failed` where the sink fails. It then has a front of what waited, and is finished only if it
+    /// was before.
     pub fn end(self) -> (O, Result<(), Failed>)
         requires vertices { self.plan.vertices ≡ 0 }
         requires faces { self.plan.faces ≡ 0 }
         ensures ok { OnOk result.1 (Puts (O.held self.sink) (O.held result.0) self.buffered) }
         ensures finished { OnOk result.1 (O.finished result.0 ≡ true) }
+        ensures open { OnErr result.1 (StaysOpen (O.finished self.sink) (O.finished result.0)) }
         ensures front { PutsFront (O.held self.sink) (O.held result.0) self.buffered }
         ensures cause { HasCause (O.faults self.sink) (O.faults result.0) result.1 }
     {

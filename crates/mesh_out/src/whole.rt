@@ -4,6 +4,7 @@ ghost use Rattle.std.specs.Prelude.{◌≡◌, ◌<◌, ◌≤◌, ◌+◌, ◌-
 ghost use Rattle.std.specs.List.{All, flat_map};
 ghost use Rattle.fault_counts.specs.Counts.{HasCause, Rose};
 ghost use Rattle.fault_counts.specs.Told.{Puts, PutsFront};
+ghost use Rattle.oemm_io.specs.Whole.{StaysOpen};
 ghost use Rattle.mesh_data.specs.Triangles.{IsBelow};
 ghost use Rattle.mesh_out.specs.Form.{form_vertex, form_face, form_text};
 ghost use Rattle.mesh_out.specs.Stream.{after_face, PutsBefore};
@@ -21,6 +22,7 @@ fn put_points<O: Sink>(out: &mut MeshOut<O>, points: &[Point]) -> Result<(), Fai
         (out.old.buffered ++ flat_map (form_vertex out.old.plan.form) points.now) out.new.buffered) }
     ensures err { OnErr result (PutsFront (O.held out.old.sink) (O.held out.new.sink)
         (out.old.buffered ++ flat_map (form_vertex out.old.plan.form) points.now)) }
+    ensures open { StaysOpen (O.finished out.old.sink) (O.finished out.new.sink) }
     ensures cause { HasCause (O.faults out.old.sink) (O.faults out.new.sink) result }
 {
     for p in points {
@@ -38,6 +40,7 @@ fn put_face<O: Sink>(out: &mut MeshOut<O>, t: &Tri) -> Result<(), Failed>
         (out.old.buffered ++ form_face out.old.plan.form t.now) out.new.buffered) }
     ensures err { OnErr result (PutsBefore (O.held out.old.sink) (O.held out.new.sink)
         out.old.buffered out.new.buffered) }
+    ensures open { StaysOpen (O.finished out.old.sink) (O.finished out.new.sink) }
     ensures cause { HasCause (O.faults out.old.sink) (O.faults out.new.sink) result }
 {
     out.face(t.a.0, t.b.0, t.c.0)
@@ -52,6 +55,7 @@ fn put_faces<O: Sink>(out: &mut MeshOut<O>, faces: &[Tri]) -> Result<(), Failed>
         (out.old.buffered ++ flat_map (form_face out.old.plan.form) faces.now) out.new.buffered) }
     ensures err { OnErr result (PutsFront (O.held out.old.sink) (O.held out.new.sink)
         (out.old.buffered ++ flat_map (form_face out.old.plan.form) faces.now)) }
+    ensures open { StaysOpen (O.finished out.old.sink) (O.finished out.new.sink) }
     ensures cause { HasCause (O.faults out.old.sink) (O.faults out.new.sink) result }
 {
     for t in faces {
@@ -72,6 +76,7 @@ fn put_rest<O: Sink>(
     ensures ok { OnOk result.1 (Puts (O.held out.sink) (O.held result.0)
         (out.buffered ++ (flat_map (form_vertex out.plan.form) points.now ++ flat_map (form_face out.plan.form) faces.now))) }
     ensures finished { OnOk result.1 (O.finished result.0 ≡ true) }
+    ensures open { OnErr result.1 (StaysOpen (O.finished out.sink) (O.finished result.0)) }
     ensures front { PutsFront (O.held out.sink) (O.held result.0)
         (out.buffered ++ (flat_map (form_vertex out.plan.form) points.now ++ flat_map (form_face out.plan.form) faces.now)) }
     ensures cause { HasCause (O.faults out.sink) (O.faults result.0) result.1 }
@@ -88,8 +93,8 @@ fn put_rest<O: Sink>(
 /// Writes the file of these points and faces, and finishes the sink.
 ///
 /// # Errors
-/// `Write` where the sink fails. It then has a front of the file. `Memory` where the block can't be
-/// had. The sink then comes back as it was.
+/// `Write` where the sink fails. It then has a front of the file, and is finished only if it was
+/// before. `Memory` where the block can't be had. The sink then comes back as it was.
 pub fn write_mesh<O: Sink>(
     alloc: Global,
     sink: O,
@@ -102,6 +107,7 @@ pub fn write_mesh<O: Sink>(
     requires names { All (IsBelow (2 ^ 31)) faces.now }
     ensures ok { OnOk result.1 (Puts (O.held sink) (O.held result.0) (form_text form points.now faces.now)) }
     ensures finished { OnOk result.1 (O.finished result.0 ≡ true) }
+    ensures open { OnErr result.1 (StaysOpen (O.finished sink) (O.finished result.0)) }
     ensures front { PutsFront (O.held sink) (O.held result.0) (form_text form points.now faces.now) }
     ensures write { IsErrOf result.1 OutFault.Write → Rose (O.faults sink) (O.faults result.0) }
     ensures memory { IsErrOf result.1 OutFault.Memory → result.0 ≡ sink }

@@ -1,9 +1,11 @@
 //! Sources and sinks of the system, which tell nothing of their bytes.
 
-ghost use Rattle.std.specs.Prelude.{◌≡◌, ◌≤◌, false, length, IfOk};
+ghost use Rattle.std.specs.Prelude.{◌≡◌, ◌≤◌, length, IfOk};
+ghost use Rattle.std.specs.String.{string_bytes};
+ghost use Rattle.oemm_io.specs.Files.{fresh};
 
 use crate::flows::{Failed, Sink, Source};
-use crate::tally::Tally;
+use crate::tally::{Tally, taken};
 use std::io::{Read, Write};
 use std::marker::Model;
 use std::rt::Files;
@@ -21,17 +23,18 @@ pub struct FileSource<R: Files> {
 }
 
 impl<R: Files> Model for FileSource<R> {
-    ghost use Rattle.std.specs.Prelude.{ℕ};
+    ghost use Rattle.std.specs.String.{string_bytes};
+    ghost use Rattle.oemm_io.specs.Files.{FileInput};
 
-    ghost Value = { ℕ };
+    ghost Value = { FileInput };
 
-    ghost view = { λ a. a.faults };
+    ghost view = { λ a. record { path = string_bytes a.path; faults = a.faults } };
 }
 
 impl<R: Files> FileSource<R> {
     /// The file at this path. It makes no call of the system.
     pub fn new(rt: R, path: String) -> FileSource<R>
-        ensures { result ≡ 0 }
+        ensures { result ≡ record { path = string_bytes path; faults = 0 } }
     {
         FileSource {
             rt,
@@ -47,16 +50,11 @@ impl<R: Files> Source for FileSource<R> {
 
     ghost left = { λ _. None };
 
-    ghost faults = { λ faults. faults };
+    ghost faults = { λ source. source.faults };
 
     fn take(&mut self, buf: &mut [u8]) -> Result<usize, Failed> {
-        match read_some(&self.rt, &self.path, &mut self.file, buf) {
-            Ok(count) => Ok(count),
-            Err(_) => {
-                self.faults = self.faults.saturating_add(1);
-                Err(Failed)
-            }
-        }
+        let read = read_some(&self.rt, &self.path, &mut self.file, buf);
+        taken(read, &mut self.faults)
     }
 }
 
@@ -90,17 +88,18 @@ pub struct FileSink<R: Files> {
 }
 
 impl<R: Files> Model for FileSink<R> {
+    ghost use Rattle.std.specs.String.{string_bytes};
     ghost use Rattle.oemm_io.specs.Files.{FileOutput};
 
     ghost Value = { FileOutput };
 
-    ghost view = { λ a. a.tally };
+    ghost view = { λ a. record { path = string_bytes a.path; state = a.tally } };
 }
 
 impl<R: Files> FileSink<R> {
     /// The file at this path. It makes no call of the system.
     pub fn new(rt: R, path: String) -> FileSink<R>
-        ensures { result ≡ record { faults = 0; finished = false } }
+        ensures { result ≡ record { path = string_bytes path; state = fresh } }
     {
         FileSink {
             rt,
@@ -116,9 +115,9 @@ impl<R: Files> Sink for FileSink<R> {
 
     ghost held = { λ _. None };
 
-    ghost faults = { λ sink. sink.faults };
+    ghost faults = { λ sink. sink.state.faults };
 
-    ghost finished = { λ sink. sink.finished };
+    ghost finished = { λ sink. sink.state.finished };
 
     fn put(&mut self, bytes: &[u8]) -> Result<usize, Failed> {
         let written = write_some(&self.rt, &self.path, &mut self.file, bytes);
@@ -166,9 +165,9 @@ pub struct StdSink<R> {
 }
 
 impl<R> Model for StdSink<R> {
-    ghost use Rattle.oemm_io.specs.Files.{FileOutput};
+    ghost use Rattle.oemm_io.specs.Files.{SinkState};
 
-    ghost Value = { FileOutput };
+    ghost Value = { SinkState };
 
     ghost view = { λ a. a.tally };
 }
@@ -176,7 +175,7 @@ impl<R> Model for StdSink<R> {
 impl<R> StdSink<R> {
     /// Standard output. It makes no call of the system.
     pub fn new(rt: R) -> StdSink<R>
-        ensures { result ≡ record { faults = 0; finished = false } }
+        ensures { result ≡ fresh }
     {
         StdSink {
             rt,

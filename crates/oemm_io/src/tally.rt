@@ -1,8 +1,8 @@
-//! What a sink of the system keeps of its calls.
+//! What the system's answers mean for a source and a sink, and what these keep of them.
 
-ghost use Rattle.std.specs.Prelude.{◌≡◌, ◌≤◌, ◌<◌, true, false, IfOk, OnOk, OnErr, is_err};
-ghost use Rattle.fault_counts.specs.Counts.{HasCause};
-ghost use Rattle.oemm_io.specs.Files.{takes_nothing, after_put, after_fault};
+ghost use Rattle.std.specs.Prelude.{◌≡◌, ◌≤◌, ◌<◌, true, IfOk, OnOk, OnErr, is_err};
+ghost use Rattle.fault_counts.specs.Counts.{next_count, HasCause};
+ghost use Rattle.oemm_io.specs.Files.{fresh, takes_nothing, after_put, after_fault};
 
 use crate::flows::Failed;
 use std::io;
@@ -16,16 +16,16 @@ pub struct Tally {
 }
 
 impl Model for Tally {
-    ghost use Rattle.oemm_io.specs.Files.{FileOutput};
+    ghost use Rattle.oemm_io.specs.Files.{SinkState};
 
-    ghost Value = { FileOutput };
+    ghost Value = { SinkState };
 
     ghost view = { λ a. record { faults = a.faults; finished = a.finished } };
 }
 
 impl Tally {
     pub fn new() -> Tally
-        ensures { result ≡ record { faults = 0; finished = false } }
+        ensures { result ≡ fresh }
     {
         Tally {
             faults: 0,
@@ -47,7 +47,7 @@ impl Tally {
                 self.finished = self.finished && count == 0;
                 Ok(count)
             }
-            _ => Err(self.fail()),
+            _ => Err(count_fault(&mut self.faults)),
         }
     }
 
@@ -63,15 +63,30 @@ impl Tally {
                 self.finished = true;
                 Ok(())
             }
-            Err(_) => Err(self.fail()),
+            Err(_) => Err(count_fault(&mut self.faults)),
         }
     }
+}
 
-    fn fail(&mut self) -> Failed
-        ensures after { self.new ≡ after_fault self.old }
-        ensures kept { self.old.faults ≤ self.new.faults }
-    {
-        self.faults = self.faults.saturating_add(1);
-        Failed
+/// What a take answers where the system read this.
+pub fn taken(read: io::Result<usize>, faults: &mut u64) -> Result<usize, Failed>
+    ensures fails { is_err result ≡ is_err read }
+    ensures count { IfOk result (λ n. read ≡ Ok n) }
+    ensures after { OnOk result (faults.new ≡ faults.old) }
+    ensures after_fault { OnErr result (faults.new ≡ next_count faults.old) }
+    ensures cause { HasCause faults.old faults.new result }
+{
+    match read {
+        Ok(count) => Ok(count),
+        Err(_) => Err(count_fault(faults)),
     }
+}
+
+/// Counts one fault more.
+fn count_fault(faults: &mut u64) -> Failed
+    ensures after { faults.new ≡ next_count faults.old }
+    ensures kept { faults.old ≤ faults.new }
+{
+    *faults = faults.saturating_add(1);
+    Failed
 }

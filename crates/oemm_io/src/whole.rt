@@ -1,9 +1,9 @@
 //! All bytes of a source, and all bytes into a sink.
 
-ghost use Rattle.std.specs.Prelude.{◌≡◌, ◌≤◌, true, IfOk, OnOk, IsErrOf, vec_len};
+ghost use Rattle.std.specs.Prelude.{◌≡◌, ◌≤◌, true, IfOk, OnOk, OnErr, IsErrOf, vec_len};
 ghost use Rattle.fault_counts.specs.Counts.{Rose, HasCause};
 ghost use Rattle.fault_counts.specs.Told.{Takes, IsAtEnd, Puts, PutsFront};
-ghost use Rattle.oemm_io.specs.Whole.{TakesSome, IsLongerThan};
+ghost use Rattle.oemm_io.specs.Whole.{TakesSome, IsLongerThan, StaysOpen};
 
 use crate::flows::{Failed, Sink, Source};
 use std::alloc::{AllocError, Global};
@@ -97,10 +97,12 @@ fn zeros(alloc: Global, count: usize) -> Result<Vec<u8>, AllocError>
 /// Puts all the bytes, and finishes the sink.
 ///
 /// # Errors
-/// `Failed` where the sink fails. It then has a front of the bytes.
+/// `Failed` where the sink fails. It then has a front of the bytes, and is finished only if it was
+/// before.
 pub fn put_all<O: Sink>(mut sink: O, bytes: &[u8]) -> (O, Result<(), Failed>)
     ensures ok { OnOk result.1 (Puts (O.held sink) (O.held result.0) bytes.now) }
     ensures finished { OnOk result.1 (O.finished result.0 ≡ true) }
+    ensures open { OnErr result.1 (StaysOpen (O.finished sink) (O.finished result.0)) }
     ensures front { PutsFront (O.held sink) (O.held result.0) bytes.now }
     ensures cause { HasCause (O.faults sink) (O.faults result.0) result.1 }
 {
@@ -112,6 +114,7 @@ pub fn put_all<O: Sink>(mut sink: O, bytes: &[u8]) -> (O, Result<(), Failed>)
 fn put_pieces<O: Sink>(sink: &mut O, bytes: &[u8]) -> Result<(), Failed>
     ensures ok { OnOk result (Puts (O.held sink.old) (O.held sink.new) bytes.now) }
     ensures finished { OnOk result (O.finished sink.new ≡ true) }
+    ensures open { OnErr result (StaysOpen (O.finished sink.old) (O.finished sink.new)) }
     ensures front { PutsFront (O.held sink.old) (O.held sink.new) bytes.now }
     ensures cause { HasCause (O.faults sink.old) (O.faults sink.new) result }
 {

@@ -20,6 +20,7 @@ loop-t-preserved g c = record {
       (ap (λ (plan : Plan). form_face plan.form c.t-item.result) c.loop-t.invariant.plan ∙ ap (λ (t : Tri). form_face c.args.out.now.plan.form t) c.t-item.is)
       c.loop-t.invariant.puts
       c.in_ok-put_face.ensures.ok;
+  open_still = λ was. c.in_ok-put_face.ensures.open (c.loop-t.invariant.open_still was);
   kept = omega (arith, c.loop-t.invariant.kept, c.in_ok-put_face.ensures.cause.kept);
 }
 

@@ -19,6 +19,7 @@ loop-p-preserved g c = record {
       (ap (λ (plan : Plan). form_vertex plan.form (get_or c.args.points.now c.loop-p.p-index (record { x = pos 0; y = pos 0; z = pos 0 }))) c.loop-p.invariant.plan)
       c.loop-p.invariant.puts
       c.in_ok-vertex.ensures.ok;
+  open_still = λ was. c.in_ok-vertex.ensures.open (c.loop-p.invariant.open_still was);
   kept = omega (arith, c.loop-p.invariant.kept, c.in_ok-vertex.ensures.cause.kept);
 }
 
