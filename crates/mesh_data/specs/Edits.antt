@@ -128,7 +128,7 @@ unfoldable pub flipped_tris : ℕ → ℕ → ℕ → ℕ → List Tri → List 
 flipped_tris a b c d ts =
     in_order tri_cmp (turned (record { a = a; b = d; c = c }) ∷ turned (record { a = d; b = b; c = c }) ∷ filter (λ t. not (has_both a b t)) ts)
 
--- the mesh with the edge of a and b flipped, if it has a triangle in either direction
+-- the mesh with the edge of a and b flipped, if it has a triangle in both directions
 abbrev pub flipped : Mesh → ℕ → ℕ → Mesh
 flipped m a b =
     option_map_or (λ ends. record { vertices = m.vertices; tris = flipped_tris a b ends.0 ends.1 m.tris }) (opposites m.tris a b) m

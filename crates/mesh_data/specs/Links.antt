@@ -21,7 +21,7 @@ are_neighbours ts u v = list_any (has_both u v) ts
 unfoldable pub apex : List Tri → ℕ → ℕ → Option ℕ
 apex ts a b = option_map (λ t. t.c) (find (λ t. t.a == a && t.b == b) (flat_map from_each_corner ts))
 
--- the names opposite of an edge that has a triangle in either direction
+-- the names opposite of an edge that has a triangle in both directions
 abbrev pub opposites : List Tri → ℕ → ℕ → Option (ℕ × ℕ)
 opposites ts a b = option_zip (apex ts a b) (apex ts b a)
 

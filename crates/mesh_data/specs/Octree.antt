@@ -1,5 +1,5 @@
 -- The octree over the cube of the grid, whose coordinates are -32768 to 32767 along each axis.
-use Rattle.std.specs.Prelude.{ℕ, ◌≤◌, ◌<◌, ◌+◌, ◌-◌, ◌/◌, ◌^◌, Bool, ◌&&◌, ◌==◌, nat_le, int_le, ℤ, pos, negsuc, List, [], ◌∷◌, if◌then◌else◌, slice_get}
+use Rattle.std.specs.Prelude.{◌≡◌, ℕ, ◌≤◌, ◌<◌, ◌+◌, ◌-◌, ◌*◌, ◌/◌, ◌^◌, Bool, true, ◌&&◌, ◌==◌, nat_le, int_le, ℤ, pos, negsuc, ◌+ℤ◌, ◌≤ℤ◌, ◌<ℤ◌, List, [], ◌∷◌, if◌then◌else◌, slice_get}
 use Rattle.std.specs.List.{All, list_any, filter_map}
 use Rattle.mesh_data.specs.declared.geometry.Point.{Point}
 use Rattle.mesh_data.specs.declared.geometry.Cell.{Cell}
@@ -7,6 +7,19 @@ use Rattle.mesh_data.specs.declared.geometry.Cell.{Cell}
 -- a number that is a coordinate of the grid
 abbrev pub on_grid : ℤ → Bool
 on_grid n = int_le (negsuc 32767) n && int_le n (pos 32767)
+
+-- a point of the grid
+abbrev pub IsOnGrid : Point → Type 0
+IsOnGrid p = (on_grid p.x ≡ true) × (on_grid p.y ≡ true) × (on_grid p.z ≡ true)
+
+-- no coordinate of the first point is above that of the second
+abbrev pub IsAtMost : Point → Point → Type 0
+IsAtMost p q = (p.x ≤ℤ q.x) × (p.y ≤ℤ q.y) × (p.z ≤ℤ q.z)
+
+-- the coordinate is one of those of the part at this place: the parts have 2^(16 - depth) coordinates each, one part after
+-- another from the low end of the axis
+abbrev pub IsInPart : ℕ → ℕ → ℤ → Type 0
+IsInPart depth place n = (pos (place * 2 ^ (16 - depth)) ≤ℤ (n +ℤ pos 32768)) × ((n +ℤ pos 32768) <ℤ pos ((place + 1) * 2 ^ (16 - depth)))
 
 -- how far a coordinate lies above the low end of its axis
 unfoldable pub from_low : ℤ → ℕ

@@ -1,6 +1,6 @@
 -- Planes of triangles, and the quadrics of lists of planes (Garland and Heckbert, "Surface Simplification Using
 -- Quadric Error Metrics", 1997, with planes that aren't normalised).
-use Rattle.std.specs.Prelude.{ℕ, ◌+◌, ◌*◌, ◌^◌, ◌≤◌, Bool, not, ◌&&◌, ◌==◌, ℤ, pos, ◌+ℤ◌, ◌-ℤ◌, ◌*ℤ◌, neg_ℤ, nat_abs, int_le, List, [], ◌∷◌}
+use Rattle.std.specs.Prelude.{ℕ, ◌+◌, ◌*◌, ◌^◌, ◌≤◌, Bool, not, ◌&&◌, ◌==◌, ℤ, pos, ◌+ℤ◌, ◌-ℤ◌, ◌*ℤ◌, neg_ℤ, ◌≤ℤ◌, nat_abs, int_le, List, [], ◌∷◌}
 use Rattle.mesh_data.specs.declared.geometry.Point.{Point}
 use Rattle.mesh_data.specs.declared.planes.Plane.{Plane}
 
@@ -107,7 +107,7 @@ sums_value s p =
 abbrev pub most_planes : ℕ
 most_planes = 3 * 2 ^ 24
 
--- each sum is at most its bound in size, by the number of planes
+-- each sum is at most its bound in size, by the number of planes, and that of the squared offsets isn't negative
 pub record AreBounded (s : Sums) : Type 0 where
   pub planes : s.planes ≤ most_planes
   pub aa : nat_abs s.aa ≤ s.planes * 2 ^ 64
@@ -119,4 +119,5 @@ pub record AreBounded (s : Sums) : Type 0 where
   pub bd : nat_abs s.bd ≤ s.planes * 2 ^ 81
   pub cc : nat_abs s.cc ≤ s.planes * 2 ^ 64
   pub cd : nat_abs s.cd ≤ s.planes * 2 ^ 81
+  pub dd_low : pos 0 ≤ℤ s.dd
   pub dd : nat_abs s.dd ≤ s.planes * 2 ^ 98

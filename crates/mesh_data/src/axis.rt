@@ -1,4 +1,6 @@
-ghost use Rattle.std.specs.Prelude.{◌≡◌, ◌≤◌, ◌<◌, ℕ};
+//! Places along one axis of the grid.
+
+ghost use Rattle.std.specs.Prelude.{◌≡◌, ◌≤◌, ◌<◌};
 ghost use Rattle.mesh_data.specs.Octree.{from_low, place_at, is_between};
 
 /// How far a coordinate lies above the low end of its axis.

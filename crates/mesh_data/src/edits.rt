@@ -1,3 +1,5 @@
+//! Edits and their replies, tasks, and the entries of a journal.
+
 use crate::geometry::{Point, Tri};
 use crate::list::{Copied, List};
 use crate::names::{Lane, Name};
@@ -9,19 +11,21 @@ use std::alloc::{AllocError, Global};
 pub enum Edit {
     /// Puts a vertex at another point.
     Move { v: Name, to: Point },
-    /// Puts `v` for `u`, where that costs at most `max`.
+    /// Puts `v` for `u`, where that costs at most `max`: the squared values of the planes of both at the point of `v`,
+    /// each the squared distance weighted by four times the squared area of its triangle. A script's bound is 0 to
+    /// 2^126.
     Collapse { u: Name, v: Name, max: i128 },
     /// Turns the edge of `a` and `b`, between its two triangles, to their other two vertices.
     Flip { a: Name, b: Name },
     /// Makes the cheapest collapse that can be made, of at most this cost, as long as more than `target` triangles have
-    /// all three vertices held.
+    /// all three vertices held. A script's target is 0 to 2^24.
     Simplify { max: i128, target: u32 },
 }
 
 /// The edits of a task, in their order.
 pub type Edits = List<Edit>;
 
-/// A collapse that a simplification made.
+/// A collapse that a simplification made: `v` was put for `u`, at this cost.
 #[derive(Clone, Copy, Debug, PartialEq, Eq)]
 pub struct Step {
     pub u: Name,
@@ -80,7 +84,7 @@ pub struct Task {
     pub edits: Edits,
 }
 
-/// A list of tasks.
+/// Tasks, in the order in which they are done.
 pub type Tasks = List<Task>;
 
 /// A task that was done, with what its edits answered.
@@ -94,7 +98,7 @@ pub struct Entry {
     pub core: LeafSet,
 }
 
-/// A list of entries of a journal.
+/// The entries of a journal, in the order in which their tasks were done.
 pub type Entries = List<Entry>;
 
 /// The tasks of a script, in their order.

@@ -1,3 +1,5 @@
+//! Points, vertices, triangles, edges, and the cells of the octree.
+
 use crate::axis::{is_between, place_at};
 use crate::list::{Copied, List};
 use crate::names::Name;

@@ -1,3 +1,5 @@
+//! The parts of a mesh's file, one after another, and what can be wrong with them or with a script.
+
 ghost use Rattle.std.specs.Prelude.{◌≡◌, ◌≤◌, ℕ, Option, Some, Err, ◌⊎◌};
 ghost use Rattle.fault_counts.specs.Counts.{Rose};
 ghost use Rattle.mesh_data.specs.Reading.{Reading, Given, Steps, Reads};
@@ -18,12 +20,19 @@ pub enum Item {
 /// What passed its limit.
 #[derive(Clone, Copy, Debug, PartialEq, Eq)]
 pub enum What {
+    /// The vertices that a mesh's file counts.
     Vertices,
+    /// The faces that a mesh's file counts.
     Faces,
+    /// The bytes of a mesh's file that are looked at.
     MeshBytes,
+    /// The bytes of a script.
     ScriptBytes,
+    /// The bytes of a line before its line feed.
     LineBytes,
+    /// The tasks of a script.
     Tasks,
+    /// The edits of a task.
     Edits,
 }
 
@@ -80,8 +89,11 @@ pub enum MeshWhy {
 pub enum MeshFault {
     /// The source failed.
     Read,
-    /// `at` is the number of bytes before the line in which the fault stands, and for a cut that of the source.
+    /// `at` is the number of bytes before the line or the record in which the fault stands, and for a cut that of the
+    /// source.
     Text { at: u64, why: MeshWhy },
+    /// A limit is passed. `count` is what the file counts, for a line one byte more than it may have, and for the
+    /// bytes of the file their limit.
     TooMany { what: What, count: u64 },
     Memory,
 }

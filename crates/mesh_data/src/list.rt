@@ -1,3 +1,5 @@
+//! Lists, and copies that can fail.
+
 ghost use Rattle.std.specs.Prelude.{◌≡◌, ◌<◌, [], ◌∷◌, ◌++◌, length, slice_get, Some, OnOk, IfErr, IfOk, IsTrue, ◌↔◌};
 
 use std::alloc::{AllocError, Global};

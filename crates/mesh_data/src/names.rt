@@ -1,3 +1,5 @@
+//! The numbers of vertices, leaves and lanes.
+
 use crate::list::Copied;
 use std::alloc::{AllocError, Global};
 use std::marker::Model;

@@ -1,3 +1,5 @@
+//! Planes of triangles.
+
 use crate::list::{Copied, List};
 use std::alloc::{AllocError, Global};
 

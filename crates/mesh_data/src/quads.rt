@@ -1,8 +1,10 @@
+//! Sums of squared planes.
+
 ghost use Rattle.mesh_data.specs.Planes.{AreBounded};
 
 /// The quadric of some planes n·p + d = 0: how many they are, and the sums over them of the products of their
-/// coefficients a, b, c (the parts of n) and d. Each sum is within its bound by the number of planes, and there
-/// are at most 3 · 2^24 planes.
+/// coefficients a, b, c (the parts of n) and d. Each sum is within its bound by the number of planes, `dd` is not
+/// negative, and there are at most 3 · 2^24 planes.
 #[derive(Clone, Copy, Debug, PartialEq, Eq)]
 pub struct Quad {
     pub planes: u32,

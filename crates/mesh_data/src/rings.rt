@@ -1,3 +1,5 @@
+//! The neighbours round a vertex.
+
 use crate::list::List;
 use crate::names::Name;
 

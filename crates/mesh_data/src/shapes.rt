@@ -1,3 +1,5 @@
+//! What an audit answers.
+
 use crate::names::Name;
 
 /// What keeps triangles from being an oriented manifold.

@@ -92,5 +92,6 @@ fn command_words_are_their_bytes(rt: HostRuntime) -> Result<(), Fail> {
     assert_eq!(rt; words.len(), 2);
     assert_eq!(rt; words.at(1).copy(rt.alloc())?.as_str(), "a b");
     assert_eq!(rt; words.slice().len(), 2);
+    assert_eq!(rt; words.copy(rt.alloc())?.at(0).as_str(), "run");
     Ok(())
 }

@@ -1,3 +1,5 @@
+//! The words of the command line.
+
 ghost use Rattle.std.specs.Prelude.{◌≡◌, ◌<◌, [], ◌∷◌, ◌++◌, length, slice_get, Some, OnOk, OnErr, IfOk};
 
 use crate::list::{Copied, List};
@@ -21,6 +23,9 @@ impl Model for CommandWord {
 
 impl CommandWord {
     /// A copy of the text.
+    ///
+    /// # Errors
+    /// Want of memory.
     pub fn of(alloc: Global, text: &str) -> Result<CommandWord, AllocError>
         ensures { IfOk result (λ word. word ≡ text.now) }
     {
@@ -101,5 +106,14 @@ impl CommandWords {
             Ok(()) => Ok(()),
             Err(_) => Err(AllocError),
         }
+    }
+}
+
+impl Copied for CommandWords {
+    fn copy(&self, alloc: Global) -> Result<CommandWords, AllocError> {
+        Ok(CommandWords {
+            words: self.words.copy(alloc)?,
+            alloc,
+        })
     }
 }

@@ -1,10 +1,11 @@
 -- The sizes of sums and of products of integers, and the bounds of sums of products.
-use Rattle.std.proofs.Common.{◌≡◌, ℕ, ◌+◌, ◌*◌, ◌^◌, ◌≤◌, ◌<◌, ℤ, ◌+ℤ◌, ◌*ℤ◌, nat_abs, FitsSigned, to_z, of_z, w16, w64, lit≤, arith}
+use Rattle.std.proofs.Common.{◌≡◌, ℕ, ◌+◌, ◌*◌, ◌^◌, ◌≤◌, ◌<◌, ℤ, pos, ◌+ℤ◌, ◌*ℤ◌, ◌≤ℤ◌, nat_abs, FitsSigned, to_z, of_z, w16, w64, lit≤, arith}
 use Rattle.std.proofs.Math.Nat.{mul-le-mul, mul-le-mul_left}
 use Rattle.std.specs.Int.{w128}
 use Rattle.mesh_data.specs.declared.planes.Plane.{Plane}
 use Rattle.mesh_data.specs.Planes.{Sums, AreBounded, added, products, most_planes}
 use Rattle.std.proofs.lemmas.Int.{ints, unsigned_abs-mul, to_z-of_z, fits_signed_from_abs}
+use Rattle.oemm_plane.proofs.SumsRing.{square_not_negative}
 
 pub size_sum : (a b : ℤ) → nat_abs (a +ℤ b) ≤ nat_abs a + nat_abs b
 size_sum a b = omega (arith, ints)
@@ -35,6 +36,9 @@ read_pair a b r f g h e = simp to_z-of_z (simp to_z-of_z at e)
 size_both : (a b : ℤ) (m n k : ℕ) → nat_abs a ≤ m * k → nat_abs b ≤ n * k → nat_abs (a +ℤ b) ≤ (m + n) * k
 size_both a b m n k h j = let sum = size_sum a b in omega arith
 
+low_both : (a b : ℤ) → pos 0 ≤ℤ a → pos 0 ≤ℤ b → pos 0 ≤ℤ (a +ℤ b)
+low_both a b h j = omega (arith, ints)
+
 pub AreBounded-added : (s t : Sums) → AreBounded s → AreBounded t → s.planes + t.planes ≤ most_planes → AreBounded (added s t)
 AreBounded-added s t f g h = record {
   planes = h;
@@ -47,6 +51,7 @@ AreBounded-added s t f g h = record {
   bd = size_both s.bd t.bd s.planes t.planes (2 ^ 81) f.bd g.bd;
   cc = size_both s.cc t.cc s.planes t.planes (2 ^ 64) f.cc g.cc;
   cd = size_both s.cd t.cd s.planes t.planes (2 ^ 81) f.cd g.cd;
+  dd_low = low_both s.dd t.dd f.dd_low g.dd_low;
   dd = size_both s.dd t.dd s.planes t.planes (2 ^ 98) f.dd g.dd;
 }
 
@@ -72,5 +77,6 @@ AreBounded-products l x y z d =
       bd = size_pair l.ny l.d n m (1 * 2 ^ 81) y' d' (lit≤ tt);
       cc = size_pair l.nz l.nz n n (1 * 2 ^ 64) z' z' (lit≤ tt);
       cd = size_pair l.nz l.d n m (1 * 2 ^ 81) z' d' (lit≤ tt);
+      dd_low = square_not_negative l.d;
       dd = size_pair l.d l.d m m (1 * 2 ^ 98) d' d' (lit≤ tt);
     }

@@ -1,3 +1,5 @@
+//! What follows from the definitions of planes and of their sums.
+
 ghost use Rattle.std.specs.Prelude.{◌≡◌, [], ◌∷◌, ◌++◌, List, length, pos, ◌≤ℤ◌, IsPermutation};
 ghost use Rattle.mesh_data.specs.declared.geometry.Point.{Point};
 ghost use Rattle.mesh_data.specs.declared.planes.Plane.{Plane};

@@ -1,3 +1,5 @@
+//! The ten sums of a list of planes, which measure a collapse.
+
 ghost use Rattle.std.specs.Prelude.{◌≡◌, ◌+◌, ◌*◌, ◌^◌, ◌≤◌, ◌<◌, ◌+ℤ◌, ◌*ℤ◌, ◌≤ℤ◌, nat_abs, pos, List};
 ghost use Rattle.mesh_data.specs.declared.planes.Plane.{Plane};
 ghost use Rattle.mesh_data.specs.Planes.{squares, Sums, no_sums, products, added, sums_of, sums_value, most_planes};

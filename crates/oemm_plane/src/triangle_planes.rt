@@ -1,3 +1,5 @@
+//! The plane of a triangle, and the fold test.
+
 ghost use Rattle.std.specs.Prelude.{◌≡◌, ◌&&◌, ◌==◌, ◌≤◌, ◌<◌, ◌^◌, ◌+ℤ◌, ◌-ℤ◌, ◌*ℤ◌, nat_abs};
 ghost use Rattle.mesh_data.specs.declared.geometry.Point.{Point};
 ghost use Rattle.mesh_data.specs.Planes.{plane_of, normal_x, normal_y, normal_z, dot, folds};

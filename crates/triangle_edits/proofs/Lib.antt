@@ -4,3 +4,4 @@ pub mod Neighbours
 pub mod ThreeRings
 pub mod Made
 pub mod Results
+pub mod Least

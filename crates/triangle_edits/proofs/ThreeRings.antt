@@ -1,6 +1,6 @@
 -- Closed rings of one vertex have as many names, and as many as the walk along its link.
 use Rattle.std.proofs.Common.{◌≡◌, ℕ, ◌≤◌, Bool, true, false, ◌&&◌, eqb, List, [], ◌∷◌, length, Option, Some, None, sym, ap, ◌∙◌, subst, arith}
-use Rattle.std.proofs.lemmas.Bool.{or_left}
+use Rattle.std.proofs.lemmas.Bool.{or_left, and_parts, and_from, eqb-true, eq-eqb}
 use Rattle.std.specs.Option.{IfSome, IfNone}
 use Rattle.mesh_data.specs.declared.geometry.Edge.{Edge}
 use Rattle.mesh_data.specs.declared.geometry.Tri.{Tri}
@@ -8,7 +8,7 @@ use Rattle.mesh_data.specs.declared.rings.Ring.{Ring}
 use Rattle.mesh_data.specs.Links.{names_along, is_closed_by_three}
 use Rattle.mesh_data.specs.Rings.{has_step, way, IsRingOf, go_round, link}
 use Rattle.mesh_data.specs.Triangles.{same_edge}
-use Rattle.triangle_lists.proofs.Candidates.{no_ring, going_by_found, not_going}
+use Rattle.triangle_lists.proofs.Candidates.{no_ring, going_by_found, not_going, found_by_going}
 use Rattle.triangle_lists.proofs.RingLaws.{ring, on_path, ring_at, ring_way, ring_fits, starts_on_ring, length-steps_closed}
 use Rattle.triangle_lists.proofs.Walks.{steps_to, same_itself}
 
@@ -43,3 +43,19 @@ pub three_missed : (ts : List Tri) (v : ℕ) (es : List Edge) (o : Option Ring) 
 unfolding is_closed_by_three
 three_missed ts v es o same none is =
     ap (λ (b : Bool). b && eqb (length (names_along (link v ts))) 3) (not_going es (subst (λ (p : Option Ring). IfNone p ((r : Ring) → IsRingOf es r → ⊥)) is none) ∙ ap go_round same)
+
+-- the test tells exactly where there is a closed ring of three names
+pub three_names_found : (ts : List Tri) (v : ℕ) → is_closed_by_three ts v ≡ true → (r : Ring) × (r.closed ≡ true) × (length r.names ≡ 3) × IsRingOf (link v ts) r
+unfolding is_closed_by_three
+three_names_found ts v h =
+    let es = link v ts in
+    let going = (and_parts (go_round es) (eqb (length (names_along es)) 3) h).0 in
+    let found = found_by_going es going in
+    let r = found.0 in
+    let three = and_parts r.closed (eqb (length r.names) 3) (three_of es r.closed r.names found.2 ∙ h) in
+    (r, found.1, eqb-true (length r.names) 3 three.1, found.2)
+
+pub three_names_tell : (ts : List Tri) (v : ℕ) (r : Ring) → r.closed ≡ true → length r.names ≡ 3 → IsRingOf (link v ts) r → is_closed_by_three ts v ≡ true
+unfolding is_closed_by_three
+three_names_tell ts v r closed three is =
+    sym (three_of (link v ts) r.closed r.names is) ∙ and_from r.closed (eqb (length r.names) 3) closed (eq-eqb (length r.names) 3 three)

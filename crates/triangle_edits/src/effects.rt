@@ -1,3 +1,5 @@
+//! The lists of triangles that a collapse and a flip leave.
+
 ghost use Rattle.std.specs.Prelude.{◌≡◌, ◌≤◌, ◌==◌, not, map, filter, length, IfOk};
 ghost use Rattle.mesh_data.specs.Edits.{renamed, put_for, collapsed_tris, flipped_tris};
 ghost use Rattle.mesh_data.specs.Links.{has_both};
@@ -14,8 +16,8 @@ fn renamed(u: Name, v: Name, w: Name) -> Name
     if w == u { v } else { w }
 }
 
-/// The triangle with v in the place of u.
-fn put_for(u: Name, v: Name, t: &Tri) -> Tri
+/// The triangle with v in the place of u, if it has u.
+pub fn put_for(u: Name, v: Name, t: &Tri) -> Tri
     ensures { result ≡ put_for u v t.now }
 {
     Tri {
@@ -45,6 +47,9 @@ fn put_in_all(alloc: Global, tris: &[Tri], u: Name, v: Name) -> Result<Vec<Tri>,
 
 /// The triangles without those that have u and v, and with v for u in the others, turned and in order. It
 /// takes time of about F log F for F triangles.
+///
+/// # Errors
+/// Want of memory.
 pub fn collapsed_tris(alloc: Global, tris: &[Tri], u: Name, v: Name) -> Result<Vec<Tri>, AllocError>
     ensures tris { IfOk result (λ ts. ts.items ≡ collapsed_tris u v tris.now) }
     ensures few { IfOk result (λ ts. length ts.items ≤ length tris.now) }
@@ -56,6 +61,9 @@ pub fn collapsed_tris(alloc: Global, tris: &[Tri], u: Name, v: Name) -> Result<V
 
 /// The triangles with the two at the edge of a and b turned to the edge of c and d, in order: those that
 /// have a and b give way to (a, d, c) and (d, b, c). It takes time of about F log F for F triangles.
+///
+/// # Errors
+/// Want of memory.
 pub fn flipped_tris(
     alloc: Global,
     tris: &[Tri],

@@ -1,12 +1,14 @@
+//! Neighbours, and the third name of an edge's triangle.
+
 ghost use Rattle.std.specs.Prelude.{◌≡◌};
-ghost use Rattle.mesh_data.specs.Links.{has_both, are_neighbours, apex};
+ghost use Rattle.mesh_data.specs.Links.{has_both, are_neighbours, apex, opposites};
 ghost use Rattle.mesh_data.specs.Triangles.{has_corner};
 ghost use Rattle.triangle_edits.specs.Links.{apex_in};
 
 use mesh_data::{Name, Tri};
 
 /// Whether the triangle has the name.
-pub(crate) fn has_corner(v: Name, t: &Tri) -> bool
+pub fn has_corner(v: Name, t: &Tri) -> bool
     ensures { result ≡ has_corner v t.now }
 {
     t.a == v || t.b == v || t.c == v
@@ -52,4 +54,12 @@ pub fn apex(tris: &[Tri], a: Name, b: Name) -> Option<Name>
         }
     }
     None
+}
+
+/// The two names that lie opposite of the edge of a and b, if it has a triangle in both directions: that of the edge from a
+/// to b comes first.
+pub fn opposites(tris: &[Tri], a: Name, b: Name) -> Option<(Name, Name)>
+    ensures { result ≡ opposites tris.now a b }
+{
+    apex(tris, a, b).zip(apex(tris, b, a))
 }

@@ -1,3 +1,5 @@
+//! What the link condition asks: shared neighbours, and rings of three names.
+
 ghost use Rattle.std.specs.Prelude.{◌≡◌, ◌==◌, ◌&&◌, ◌||◌, [], ◌∷◌, ◌++◌, not, filter, length, IfOk, OnOk};
 ghost use Rattle.std.specs.List.{list_any, find};
 ghost use Rattle.std.specs.List.Sorted.{IsPermutation, IsSorted};
@@ -99,6 +101,9 @@ fn first_shared(
 
 /// The least neighbour of u that is one of v too and doesn't lie opposite of their edge, if there is one. It
 /// takes time of about F + k log k for F triangles, of which k have u or v.
+///
+/// # Errors
+/// Want of memory.
 pub fn least_shared(
     alloc: Global,
     tris: &[Tri],
@@ -123,6 +128,9 @@ fn is_closed_of_three(ring: &Ring) -> bool
 
 /// Whether v has a closed ring of three names. It takes time of about F + k log k for F triangles, of which
 /// k have v.
+///
+/// # Errors
+/// Want of memory.
 pub fn is_closed_by_three(alloc: Global, tris: &[Tri], v: Name) -> Result<bool, AllocError>
     ensures { IfOk result (λ b. b ≡ is_closed_by_three tris.now v) }
 {

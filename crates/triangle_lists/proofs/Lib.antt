@@ -13,3 +13,4 @@ pub mod Twice
 pub mod Groups
 pub mod Ringless
 pub mod EdgeCounts
+pub mod Rotations

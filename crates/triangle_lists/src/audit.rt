@@ -1,3 +1,5 @@
+//! What keeps a list of triangles from being an oriented manifold.
+
 ghost use Rattle.std.specs.Prelude.{◌≡◌, ◌==◌, ℕ, map, filter, IfOk, IfSome, IfNone, IsTrue, ◌↔◌};
 ghost use Rattle.std.specs.List.{list_any, flat_map};
 ghost use Rattle.std.specs.List.Sorted.{IsSorted, IsStrictlyIncreasing};
@@ -125,6 +127,9 @@ fn least_ringless(alloc: Global, tris: &[Tri]) -> Result<Option<Name>, AllocErro
 
 /// The least directed edge that two triangles have, else the least vertex that is in a triangle and has no
 /// ring, if there is one. It takes time of about F log F for F triangles.
+///
+/// # Errors
+/// Want of memory.
 pub fn first_fault(alloc: Global, tris: &[Tri]) -> Result<Option<Shape>, AllocError>
     ensures { IfOk result (λ found. FindsShape tris.now found) }
 {

@@ -1,3 +1,5 @@
+//! Undirected edges, and the border.
+
 ghost use Rattle.std.specs.Prelude.{◌≡◌, ◌≤◌, ◌*◌, map, length, not, filter, IfOk};
 ghost use Rattle.std.specs.FinSet as set;
 ghost use Rattle.std.specs.List.{list_any};
@@ -78,6 +80,9 @@ fn lone_edges(alloc: Global, edges: &[Edge], sorted: &[Edge]) -> Result<Vec<Edge
 }
 
 /// The number of undirected edges.
+///
+/// # Errors
+/// Want of memory.
 pub fn count_undirected(alloc: Global, tris: &[Tri]) -> Result<usize, AllocError>
     ensures count { IfOk result (λ n. n ≡ set.len (undirected_edges tris.now)) }
     ensures few { IfOk result (λ n. n ≤ 3 * length tris.now) }
@@ -88,6 +93,9 @@ pub fn count_undirected(alloc: Global, tris: &[Tri]) -> Result<usize, AllocError
 }
 
 /// The directed edges whose reverse is in no triangle, ascending.
+///
+/// # Errors
+/// Want of memory.
 pub fn border_list(alloc: Global, tris: &[Tri]) -> Result<Edges, AllocError>
     ensures edges { IfOk result (λ edges. edges
         ≡ each_once (filter (λ e. not (has_edge tris.now (reversed e))) (directed_edges tris.now))) }

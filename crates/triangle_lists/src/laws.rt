@@ -1,10 +1,20 @@
-ghost use Rattle.std.specs.Prelude.{◌≡◌, ◌+◌, ◌*◌, ℕ, List, All, length, true};
+//! What follows from the definitions of rings, edges and turned triangles.
+
+ghost use Rattle.std.specs.Prelude.{◌≡◌, ◌<◌, ◌+◌, ◌*◌, ℕ, List, All, Contains, length, true};
 ghost use Rattle.std.specs.FinSet as set;
 ghost use Rattle.mesh_data.specs.Manifold.{IsEachEdgeOnce};
 ghost use Rattle.mesh_data.specs.declared.geometry.Tri.{Tri};
 ghost use Rattle.mesh_data.specs.declared.rings.Ring.{Ring};
-ghost use Rattle.mesh_data.specs.Rings.{IsRing, has_closed_ring};
-ghost use Rattle.mesh_data.specs.Triangles.{IsProper, undirected_edges, border_edges};
+ghost use Rattle.mesh_data.specs.Rings.{IsRing, from_each_corner, has_closed_ring};
+ghost use Rattle.mesh_data.specs.Triangles.{IsProper, turned, undirected_edges, border_edges};
+
+/// That a turned triangle is the triangle seen from one of its corners; that of three different names the least comes
+/// first; and that no other of the three has its least name first.
+pub fn turn_laws()
+    ensures rotation { (t : Tri) → Contains (from_each_corner t) (turned t) }
+    ensures least { (t : Tri) → IsProper t → ((turned t).a < (turned t).b) × ((turned t).a < (turned t).c) }
+    ensures alone { (t s : Tri) → Contains (from_each_corner t) s → s.a < s.b → s.a < s.c → s ≡ turned t }
+{}
 
 /// That the test for a closed ring, a walk along the link, answers true exactly where there is one.
 pub fn closed_ring_laws()

@@ -1,4 +1,4 @@
-//! Lists of triangles: their order, edges and border.
+//! Lists of triangles: their order, edges, border, links and rings, and what is first wrong with them.
 #![tactic(auto)]
 
 mod audit;
@@ -9,7 +9,7 @@ mod turning;
 
 pub use audit::first_fault;
 pub use edge_sets::{border_list, count_undirected};
-pub use laws::{closed_ring_laws, edge_laws};
+pub use laws::{closed_ring_laws, edge_laws, turn_laws};
 pub use rings::{find_ring, has_closed_ring, link_of};
 pub use turning::{turned_in_order, turned_tri};
 
