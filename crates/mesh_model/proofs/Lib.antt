@@ -13,3 +13,5 @@ pub mod Audits
 pub mod Shares
 pub mod StartOrder
 pub mod EulerLaws
+pub mod Sorted
+pub mod Folding

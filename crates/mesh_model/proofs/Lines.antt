@@ -1,6 +1,6 @@
 -- The lines of a verdict, some of them at a time.
 use Rattle.std.proofs.Common.{◌≡◌, ◌≢◌, ◌==◌, ℕ, min, max, ℤ, pos, int_le, not, ◌&&◌, Bool, true, false, cond, find, List, [], ◌∷◌, ◌++◌, Option, Some, None, refl, ◌∙◌, ap, sym}
-use Rattle.std.proofs.lemmas.Bool.{false≢true, eq-eqb}
+use Rattle.std.proofs.lemmas.Bool.{false≢true, eq-eqb, and_parts}
 use Rattle.std.specs.List.{list_all}
 use Rattle.std.specs.Option.{option_map_or, is_none}
 use Rattle.mesh_data.specs.declared.geometry.Point.{Point}
@@ -32,14 +32,14 @@ pub told_by_others : (ls ms : List (Bool × Reply)) (last : Reply) → refusal l
 told_by_others ls ms last is = first_line-append ls ms last ∙ ap (λ o. or_else o (first_line ms last)) is
 
 -- the lines of a collapse by the rings and the link of its edge, and those by its shape and cost
-abbrev link_lines : Mesh → ℕ → ℕ → List (Bool × Reply)
+abbrev pub link_lines : Mesh → ℕ → ℕ → List (Bool × Reply)
 link_lines m u v =
     (not (has_closed_ring m.tris u), Border)
     ∷ if_any Link (least_shared m.tris u v)
     ∷ (is_closed_by_three m.tris u && is_closed_by_three m.tris v, Closed)
     ∷ []
 
-abbrev price_lines : Mesh → ℕ → ℕ → ℤ → List (Bool × Reply)
+abbrev pub price_lines : Mesh → ℕ → ℕ → ℤ → List (Bool × Reply)
 price_lines m u v most = if_any Folds (find (folds_with m u v) m.tris) ∷ (not (int_le (cost m u v) most), Dear (cost m u v)) ∷ []
 
 pub collapse_by_pair : (inside : Point → Bool) (m : Mesh) (u v : ℕ) (most : ℤ) (reply : Reply) → refusal (pair_lines inside m u v) ≡ Some reply → collapse_verdict inside m u v most ≡ reply
@@ -50,10 +50,6 @@ pub collapse_by_link : (inside : Point → Bool) (m : Mesh) (u v : ℕ) (most : 
 collapse_by_link inside m u v most reply none is =
     told_by_others (pair_lines inside m u v) (link_lines m u v ++ price_lines m u v most) (DoneAt (cost m u v)) none
     ∙ told_by_first (link_lines m u v) (price_lines m u v most) (DoneAt (cost m u v)) reply is
-
-and_parts : (a b : Bool) → (a && b) ≡ true → (a ≡ true) × (b ≡ true)
-and_parts true b h = (refl, h)
-and_parts false b h = absurd (false≢true h)
 
 -- where lines that refuse stand before an edit that is done, they don't apply
 pub done_by_others : (ls ms : List (Bool × Reply)) (last : Reply) → list_all (λ l. not (is_done l.1)) ls ≡ true → is_done (first_line (ls ++ ms) last) ≡ true → first_line (ls ++ ms) last ≡ first_line ms last

@@ -11,12 +11,6 @@ use Rattle.mesh_data.specs.Triangles.{IsProper, IsBelow, has_corner, star}
 use Rattle.mesh_model.specs.Totals.{is_bounded, large_of}
 use Rattle.mesh_model.proofs.Stocks.{none_large-push}
 
-pub all_empty-push : (xs : List (List Plane)) (v : ℕ) → ((w : ℕ) → get_or xs w [] ≡ []) → get_or (xs ++ [] ∷ []) v [] ≡ []
-all_empty-push [] zero h = refl
-all_empty-push [] (suc v) h = refl
-all_empty-push (x ∷ xs) zero h = h 0
-all_empty-push (x ∷ xs) (suc v) h = all_empty-push xs v (λ w. h (suc w))
-
 -- a plane more in the list of the place i
 abbrev pub with_plane : Plane → ℕ → List (List Plane) → List (List Plane)
 with_plane p i lists = set lists i (get_or lists i [] ++ p ∷ [])

@@ -1,6 +1,6 @@
 -- The collapses that a scan of the triangles tries are all that can be done.
 use Rattle.std.proofs.Common.{◌≡◌, ◌≢◌, ◌⊎◌, ◌==◌, ℕ, ℤ, Bool, true, false, cond, ◌||◌, ◌&&◌, List, [], ◌∷◌, ◌++◌, Option, Some, None, inl, inr, flat_map, take, get_or, take-suc, append-nil, append_assoc, length, ◌<◌, ◌+◌, not, add-one, sym, ap, ◌∙◌, refl, subst, arith}
-use Rattle.std.proofs.lemmas.Bool.{false≢true, eqb-true}
+use Rattle.std.proofs.lemmas.Bool.{false≢true, eqb-true, and_parts, or_cases}
 use Rattle.std.proofs.lemmas.Bool.Decides.{nat_tests}
 use Rattle.std.specs.Cmp.{unsigned_tied}
 use Rattle.std.specs.FinMap as finite
@@ -22,17 +22,9 @@ use Rattle.mesh_model.specs.Steps.{lesser, both_ways, best_of, answer_of}
 use Rattle.mesh_model.proofs.Lines.{can_collapse}
 use Rattle.mesh_model.proofs.Steps.{IsLeast, one_least, least_of_same, least_step_is, least_along, Among, IsIn, IsAlong, IsDoneStep, OneOf, done_along, done_among, among_done, done_step_of}
 
-or_cases : (a b : Bool) → (a || b) ≡ true → (a ≡ true) ⊎ (b ≡ true)
-or_cases true b h = inl refl
-or_cases false b h = inr h
-
 or_true : (b : Bool) → (b || true) ≡ true
 or_true true = refl
 or_true false = refl
-
-and_parts : (a b : Bool) → (a && b) ≡ true → (a ≡ true) × (b ≡ true)
-and_parts true b h = (refl, h)
-and_parts false b h = absurd (false≢true h)
 
 -- a vertex that is held is one of the mesh
 pub held_there : (inside : Point → Bool) (m : Mesh) (v : ℕ) → is_held inside m v ≡ true → finite.contains_key m.vertices v ≡ true

@@ -1,3 +1,5 @@
+//! The leaves that a box meets, and the points that lie in them.
+
 ghost use Rattle.std.specs.Prelude.{◌≡◌, ◌<◌, ◌^◌, [], ◌∷◌, ◌++◌, length, slice_get, IfOk, OnOk};
 ghost use Rattle.mesh_data.specs.Ascending.{IsAboveLast};
 ghost use Rattle.mesh_data.specs.Octree.{AreCells, AreLeaves, core_of, area_of, is_inside};
@@ -26,6 +28,9 @@ impl Model for Area {
 
 impl Area {
     /// The cells of these leaves.
+    ///
+    /// # Errors
+    /// Want of memory.
     pub fn of(alloc: Global, cells: &Cells, core: &LeafSet) -> Result<Area, AllocError>
         requires { AreCells cells.now }
         ensures { IfOk result (λ area. area ≡ area_of cells.now core.now) }
@@ -52,6 +57,9 @@ impl Area {
 }
 
 /// The leaves whose cells have a point of the closed box, ascending.
+///
+/// # Errors
+/// Want of memory.
 pub fn core_leaves(
     alloc: Global,
     cells: &Cells,

@@ -2,16 +2,16 @@
 
 ghost use Rattle.std.specs.Prelude.{◌≡◌, ◌≢◌, ◌≤◌, length};
 ghost use Rattle.std.specs.List.{find};
-ghost use Rattle.mesh_data.specs.Edits.{plane_in, put_for, folds_with, cost};
+ghost use Rattle.mesh_data.specs.Edits.{plane_in, folds_with, cost};
 ghost use Rattle.mesh_data.specs.Planes.{sums_of, most_planes};
 ghost use Rattle.mesh_data.specs.Quads.{sums_in};
-ghost use Rattle.mesh_data.specs.Triangles.{has_corner};
 ghost use Rattle.mesh_model.specs.Totals.{large_of};
 ghost use Rattle.oemm_plane.specs.PlaneBounds.{IsNormalBounded};
 
 use crate::plain_mesh::PlainMesh;
 use mesh_data::{Name, Plane, Quad, Tri};
 use oemm_plane::{QuadSums, folds, plane_of};
+use triangle_edits::{has_corner, put_for};
 
 /// The quadric of planes of triangles of the grid.
 fn quad_of(planes: &[Plane]) -> Quad
@@ -24,23 +24,6 @@ fn quad_of(planes: &[Plane]) -> Quad
         quad.add_plane(plane);
     }
     quad
-}
-
-/// The triangle with `v` in the place of `u`.
-fn put_for(u: Name, v: Name, t: &Tri) -> Tri
-    ensures { result ≡ put_for u v t.now }
-{
-    Tri {
-        a: if t.a == u { v } else { t.a },
-        b: if t.b == u { v } else { t.b },
-        c: if t.c == u { v } else { t.c },
-    }
-}
-
-fn has_corner(v: Name, t: &Tri) -> bool
-    ensures { result ≡ has_corner v t.now }
-{
-    t.a == v || t.b == v || t.c == v
 }
 
 impl PlainMesh {

@@ -12,11 +12,36 @@ use crate::areas::{Area, core_leaves};
 use crate::plain_mesh::PlainMesh;
 use mesh_data::{Cells, Copied, Edit, Entry, LeafSet, List, Name, Point, Replies, Reply, Task};
 use std::alloc::{AllocError, Global};
-use triangle_edits::{apex, collapsed_tris, flipped_tris};
+use triangle_edits::{collapsed_tris, flipped_tris, opposites};
 
 impl PlainMesh {
-    /// Answers one edit, and makes it where the answer is `Done` or `DoneAt`. For want of memory the mesh is unchanged.
-    /// It takes time of about F log F for F triangles.
+    /// Answers one edit, and makes it where the answer is `Done`, `DoneAt` or `Simplified`. Of the other answers, which
+    /// leave the mesh as it was, it gives the first that applies:
+    ///
+    /// - `Unheld`: a name of the edit that isn't held: the mesh has no such vertex in the area.
+    /// - `Same`: a collapse or a flip has one name twice.
+    /// - `Frozen`: a name of the edit that has a neighbour which isn't held.
+    /// - `Apart`: no triangle has both names of a collapse or a flip.
+    /// - `Outside`: a move goes to a point that isn't in the area.
+    /// - `Border`: the name that is to go has no closed ring, or the edge that is to be flipped has no triangle at one
+    ///   of its sides.
+    /// - `Link`: the least neighbour of both names of a collapse that doesn't lie opposite of their edge.
+    /// - `Closed`: both names of a collapse have a closed ring of three.
+    /// - `Folds`: the least triangle that a collapse would turn over.
+    /// - `Dear`: what a collapse costs, where that is more than it may.
+    /// - `Edge`: the edge that a flip would make, its lesser name first, where it is there already.
+    ///
+    /// `Done` is the answer to a move or a flip that was made, and `DoneAt` to a collapse, with its cost. Every
+    /// simplification is answered `Simplified`, also where it makes no collapse: it tells the collapses that it made, in
+    /// their order, and how many triangles with all three vertices held are left.
+    ///
+    /// A move takes time of about F for F triangles, and a collapse and a flip of about F log F. A simplification scans
+    /// the sides of all triangles for each of its steps, so its time grows with the steps times the triangles. In a scan
+    /// each collapse that is less than the best one so far is tried in full, which takes F log F again.
+    ///
+    /// # Errors
+    ///
+    /// `AllocError` for want of memory; then the mesh is unchanged. A simplification is made on a copy of the mesh.
     pub fn do_edit(&mut self, alloc: Global, area: &Area, edit: &Edit) -> Result<Reply, AllocError>
         ensures reply { IfOk result (λ r. r ≡ verdict (is_inside area.now) self.old edit.now) }
         ensures mesh { OnOk result (self.new
@@ -31,8 +56,12 @@ impl PlainMesh {
         }
     }
 
-    /// Does the task's edits in order on the core of its box. A task whose core has more than `limit` leaves is
-    /// wide and changes nothing. For want of memory the mesh is unchanged.
+    /// Does the task's edits in order on the core of its box, as `do_edit` does each. A task whose core has more than
+    /// `limit` leaves is wide and changes nothing.
+    ///
+    /// # Errors
+    ///
+    /// `AllocError` for want of memory: the mesh is unchanged. The edits are done on one copy of the mesh.
     pub fn do_task(
         &mut self,
         alloc: Global,
@@ -85,10 +114,22 @@ impl PlainMesh {
     {
         let mut replies = Vec::new(alloc);
         for edit in edits {
-            let reply = self.do_edit(alloc, area, edit)?;
+            let reply = self.do_in_place(alloc, area, edit)?;
             replies.push(reply)?;
         }
         Ok(List::from_vec(replies))
+    }
+
+    /// Does as `do_edit`, without a copy of the mesh. For want of memory a simplification may be made in part.
+    fn do_in_place(&mut self, alloc: Global, area: &Area, edit: &Edit) -> Result<Reply, AllocError>
+        ensures reply { IfOk result (λ r. r ≡ verdict (is_inside area.now) self.old edit.now) }
+        ensures mesh { OnOk result (self.new
+            ≡ after self.old edit.now (verdict (is_inside area.now) self.old edit.now)) }
+    {
+        match edit {
+            Edit::Simplify { max, target } => self.simplify(alloc, area, *max, *target),
+            _ => self.do_edit(alloc, area, edit),
+        }
     }
 
     /// Answers a move, and makes it where the answer is `Done`.
@@ -165,13 +206,10 @@ impl PlainMesh {
         ensures err { OnErr result (self.new ≡ self.old) }
     {
         let tris = self.tris.as_slice();
-        let Some(c) = apex(tris, a, b) else {
+        let Some(across) = opposites(tris, a, b) else {
             return Ok(());
         };
-        let Some(d) = apex(tris, b, a) else {
-            return Ok(());
-        };
-        self.tris = flipped_tris(alloc, tris, a, b, c, d)?;
+        self.tris = flipped_tris(alloc, tris, a, b, across.0, across.1)?;
         Ok(())
     }
 }

@@ -1,12 +1,18 @@
+//! What follows from the definitions of meshes and edits, in the words of geometry.
+
 ghost use Rattle.std.specs.Prelude.{◌≡◌, ◌*◌, ℕ, ℤ, Bool, List, length, pos, ◌-ℤ◌, ◌+ℤ◌, IsPermutation};
 ghost use Rattle.std.specs.FinMap as finite;
+ghost use Rattle.std.specs.List.Sorted.{IsSorted};
 ghost use Rattle.mesh_data.specs.declared.geometry.Point.{Point};
 ghost use Rattle.mesh_data.specs.declared.geometry.Tri.{Tri};
 ghost use Rattle.mesh_data.specs.declared.shapes.Shape.{Shape};
 ghost use Rattle.mesh_data.specs.declared.shapes.Audit.TheVariants.{Bad};
-ghost use Rattle.mesh_data.specs.Edits.{AreLeastSteps, collapsed_by, simplified};
+ghost use Rattle.mesh_data.specs.declared.edits.Reply.TheVariants.{Folds};
+ghost use Rattle.mesh_data.specs.Edits.{AreLeastSteps, collapse_verdict, collapsed_by, simplified};
 ghost use Rattle.mesh_data.specs.Manifold.{IsManifold, Audits};
 ghost use Rattle.mesh_data.specs.Mesh.{Mesh, start, euler, euler2, border};
+ghost use Rattle.mesh_data.specs.Triangles.{tri_cmp};
+ghost use Rattle.mesh_model.specs.Folding.{IsLeastFolding};
 
 /// The order of a file's faces says nothing: it has no part in the start mesh.
 #[tactic(auto, using(crate::proofs::StartOrder::start_in_any_order))]
@@ -40,4 +46,11 @@ pub fn simplify_laws()
         → AreLeastSteps inside m most target (simplified inside m most target).steps }
     ensures made { (inside : Point → Bool) (m : Mesh) (most : ℤ) (target : ℕ)
         → collapsed_by m (simplified inside m most target).steps ≡ (simplified inside m most target).mesh }
+{}
+
+/// What a collapse names that it is refused for: where the triangles are in order, as those of each `PlainMesh` are, a
+/// triangle of the mesh that would turn over, and none that would is less.
+pub fn fold_laws()
+    ensures { (inside : Point → Bool) (m : Mesh) (u v : ℕ) (most : ℤ) (t : Tri) → IsSorted tri_cmp m.tris
+        → collapse_verdict inside m u v most ≡ Folds t → IsLeastFolding m u v t }
 {}

@@ -12,7 +12,7 @@ mod verdicts;
 mod vertex_map;
 
 pub use areas::{Area, core_leaves};
-pub use laws::{audit_laws, euler_laws, simplify_laws, start_laws};
+pub use laws::{audit_laws, euler_laws, fold_laws, simplify_laws, start_laws};
 pub use mesh_data::{
     Audit, Bytes, Cell, Cells, CommandWord, CommandWords, Copied, Edge, Edges, Edit, Edits,
     ElementKind, Entries, Entry, Item, Items, Lane, LeafNo, LeafSet, List, MeshFault, MeshWhy,

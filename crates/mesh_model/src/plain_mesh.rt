@@ -1,26 +1,22 @@
-ghost use Rattle.std.specs.Prelude.{◌≡◌, ◌≤◌, ◌<◌, ◌^◌, ◌*◌, ◌||◌, ◌==◌, [], not, filter, length, nat_abs, vec_capacity, All, IfOk, OnOk, OnErr};
-ghost use Rattle.std.specs.List.{list_all};
+//! A whole mesh in memory.
+
+ghost use Rattle.std.specs.Prelude.{◌≡◌, ◌≤◌, ◌<◌, ◌^◌, ◌*◌, length, nat_abs, All, IfOk};
+ghost use Rattle.std.specs.List.Sorted.{IsSorted};
 ghost use Rattle.std.specs.FinMap as finite;
 ghost use Rattle.std.specs.Option.{option_copied};
-ghost use Rattle.mesh_data.specs.Edits.{is_held, is_free, move_verdict, moved, verdict, after};
-ghost use Rattle.mesh_data.specs.Manifold.{IsEachEdgeOnce, IsRinged, Audits};
+ghost use Rattle.mesh_data.specs.Manifold.{IsTriangleOf, IsEachEdgeOnce, IsRinged, Audits};
 ghost use Rattle.mesh_data.specs.Mesh.{start, point_of, planes_of, names_of, points_of, euler, euler2, border};
-ghost use Rattle.mesh_data.specs.Octree.{AreCells, is_inside};
-ghost use Rattle.mesh_data.specs.Triangles.{IsProper, IsBelow, corners, has_corner};
-ghost use Rattle.mesh_data.specs.Work.{work, do_task, wide_entry};
+ghost use Rattle.mesh_data.specs.Triangles.{IsProper, IsBelow, tri_cmp};
 
 use crate::plane_lists::plane_lists;
 use crate::vertex_map::VertexMap;
-use mesh_data::{
-    Audit, Cells, Copied, Edges, Edit, Entry, LeafSet, List, Name, NameSet, Planes, Point, Points,
-    Reply, Task, Tri, Tris,
-};
+use mesh_data::{Audit, Copied, Edges, List, Name, NameSet, Planes, Point, Points, Tri, Tris};
 use std::alloc::{AllocError, Global};
 use std::marker::Model;
 use triangle_lists::{border_list, count_undirected, first_fault, turned_in_order};
 
 /// A whole mesh: at most 2^24 vertices by their names, and at most 2^24 triangles of three different ones of them,
-/// each turned so that its least name comes first, in order. The vertices have at most 3 · 2^24 planes.
+/// each turned so that its least name comes first, ascending by their names. The vertices have at most 3 · 2^24 planes.
 #[derive(Drop)]
 pub struct PlainMesh {
     pub(crate) vertices: VertexMap,
@@ -29,9 +25,11 @@ pub struct PlainMesh {
 
 impl Model for PlainMesh {
     ghost use Rattle.std.specs.Prelude.{◌≤◌, length, All};
+    ghost use Rattle.std.specs.List.Sorted.{IsSorted};
     ghost use Rattle.std.specs.FinMap as finite;
     ghost use Rattle.mesh_data.specs.Manifold.{IsTriangleOf};
     ghost use Rattle.mesh_data.specs.Mesh.{Mesh, mesh_code};
+    ghost use Rattle.mesh_data.specs.Triangles.{tri_cmp};
     ghost use Rattle.mesh_model.specs.Totals.{HasPlanes};
 
     ghost Value = { Mesh };
@@ -41,12 +39,15 @@ impl Model for PlainMesh {
     ghost view = { λ m. record { vertices = m.vertices; tris = m.tris.items } };
 
     ghost invariant = { λ m. (finite.len m.vertices ≤ 16777216) × (length m.tris.items ≤ 16777216)
-        × All (IsTriangleOf m.vertices) m.tris.items × HasPlanes m.vertices };
+        × All (IsTriangleOf m.vertices) m.tris.items × HasPlanes m.vertices × IsSorted tri_cmp m.tris.items };
 }
 
 impl PlainMesh {
     /// The start mesh of points and faces: vertices are named by their places, and faces turned and put in
     /// order.
+    ///
+    /// # Errors
+    /// Want of memory.
     pub fn from_soup(
         alloc: Global,
         points: &[Point],
@@ -75,6 +76,9 @@ impl PlainMesh {
     }
 
     /// The names of the vertices, ascending.
+    ///
+    /// # Errors
+    /// Want of memory.
     #[tactic(auto, using(crate::proofs::Vertices::few_names))]
     pub fn names(&self, alloc: Global) -> Result<NameSet, AllocError>
         ensures names { IfOk result (λ names. names ≡ names_of self.now) }
@@ -84,6 +88,9 @@ impl PlainMesh {
     }
 
     /// The points of the vertices, in the order of the names.
+    ///
+    /// # Errors
+    /// Want of memory.
     #[tactic(auto, using(crate::proofs::Vertices::few_points))]
     pub fn points(&self, alloc: Global) -> Result<Points, AllocError>
         ensures points { IfOk result (λ points. points ≡ points_of self.now) }
@@ -106,16 +113,24 @@ impl PlainMesh {
         self.vertices.planes(v)
     }
 
-    /// The triangles, each turned so that its least name comes first, in order.
+    /// The triangles, ascending by their names, each turned so that its least name comes first.
+    ///
+    /// # Errors
+    /// Want of memory.
     pub fn tris(&self, alloc: Global) -> Result<Tris, AllocError>
         ensures tris { IfOk result (λ tris. tris ≡ self.now.tris) }
         ensures few { IfOk result (λ tris. length tris ≤ 16777216) }
+        ensures ascending { IfOk result (λ tris. IsSorted tri_cmp tris) }
+        ensures triangles { IfOk result (λ tris. All (IsTriangleOf self.now.vertices) tris) }
     {
         let tris = Vec::from_slice(alloc, self.tris.as_slice())?;
         Ok(List::from_vec(tris))
     }
 
     /// The Euler characteristic: the vertices and triangles, less the undirected edges.
+    ///
+    /// # Errors
+    /// Want of memory.
     pub fn euler(&self, alloc: Global) -> Result<i64, AllocError>
         ensures euler { IfOk result (λ e. e ≡ euler self.now) }
         ensures small { IfOk result (λ e. nat_abs e < 2 ^ 31) }
@@ -128,6 +143,9 @@ impl PlainMesh {
     /// Whether the mesh is an oriented 2-manifold: the least directed edge that two triangles have, else the least
     /// vertex that is in a triangle and has no ring, else the mesh's numbers. It takes time of about F log F for F
     /// triangles.
+    ///
+    /// # Errors
+    /// Want of memory.
     pub fn audit(&self, alloc: Global) -> Result<Audit, AllocError>
         ensures { IfOk result (Audits self.now) }
     {
@@ -154,6 +172,9 @@ impl PlainMesh {
     }
 
     /// Twice the Euler characteristic: twice the vertices and triangles, less twice the undirected edges.
+    ///
+    /// # Errors
+    /// Want of memory.
     pub fn euler2(&self, alloc: Global) -> Result<i64, AllocError>
         ensures { IfOk result (λ e. e ≡ euler2 self.now) }
     {
@@ -163,6 +184,9 @@ impl PlainMesh {
     }
 
     /// The directed edges whose reverse is in no triangle, ascending.
+    ///
+    /// # Errors
+    /// Want of memory.
     pub fn border(&self, alloc: Global) -> Result<Edges, AllocError>
         ensures edges { IfOk result (λ edges. edges ≡ border self.now) }
         ensures few { IfOk result (λ edges. length edges ≤ 3 * 16777216) }

@@ -1,3 +1,5 @@
+//! The planes of each vertex of a start mesh.
+
 ghost use Rattle.std.specs.Prelude.{◌≡◌, ℕ, ◌<◌, [], ◌∷◌, ◌++◌, length, slice_index_or, slice_set, not, true, All, IfOk, OnOk};
 ghost use Rattle.std.specs.List.{count_by};
 ghost use Rattle.mesh_data.specs.Mesh.{plane_at, planes_at};
@@ -9,6 +11,9 @@ use oemm_plane::plane_of;
 use std::alloc::{AllocError, Global};
 
 /// For each point, the planes of the triangles that have its place.
+///
+/// # Errors
+/// Want of memory.
 pub fn plane_lists(alloc: Global, points: &[Point], tris: &[Tri]) -> Result<Vec<Planes>, AllocError>
     requires proper { All IsProper tris.now }
     requires below { All (IsBelow (length points.now)) tris.now }

@@ -157,7 +157,23 @@ impl PlainMesh {
         Ok(List::from_vec(steps))
     }
 
-    /// Answers a simplification, and makes it. For want of memory the mesh is unchanged.
+    /// Answers a simplification, and makes it. For want of memory it may be made in part.
+    pub(crate) fn simplify(
+        &mut self,
+        alloc: Global,
+        area: &Area,
+        max: i128,
+        target: u32,
+    ) -> Result<Reply, AllocError>
+        ensures reply { IfOk result (λ r. r ≡ verdict (is_inside area.now) self.old (Simplify max target)) }
+        ensures mesh { OnOk result (self.new ≡ after self.old (Simplify max target) (verdict (is_inside area.now) self.old (Simplify max target))) }
+    {
+        let steps = self.thin(alloc, area, max, target)?;
+        let left = self.whole_count(area) as u32;
+        Ok(Reply::Simplified { steps, left })
+    }
+
+    /// Answers a simplification, and makes it on a copy. For want of memory the mesh is unchanged.
     pub(crate) fn do_simplify(
         &mut self,
         alloc: Global,
@@ -170,9 +186,8 @@ impl PlainMesh {
         ensures err { OnErr result (self.new ≡ self.old) }
     {
         let mut mesh = self.copy(alloc)?;
-        let steps = mesh.thin(alloc, area, max, target)?;
-        let left = mesh.whole_count(area) as u32;
+        let reply = mesh.simplify(alloc, area, max, target)?;
         *self = mesh;
-        Ok(Reply::Simplified { steps, left })
+        Ok(reply)
     }
 }

@@ -471,3 +471,19 @@ fn a_fan_is_simplified_inside_its_border(rt: HostRuntime) -> Result<(), Fail> {
     assert!(rt; is_good(rt.alloc(), &mesh, [4, 2, 4], 1)?);
     Ok(())
 }
+
+#[test]
+fn a_task_goes_on_after_a_simplification(rt: HostRuntime) -> Result<(), Fail> {
+    let mut mesh = mesh_of(rt.alloc(), &OCTAHEDRON, &OCTAHEDRON_FACES)?;
+    let cells = octree(rt.alloc(), 0, &[0])?;
+    let edits = [simplify(40000, 6), to(0, 1, 1, 1)];
+    let task = task_on(rt.alloc(), at(0, 0, 0), at(0, 0, 0), &edits)?;
+    let entry = mesh.do_task(rt.alloc(), &cells, 1, &task)?;
+    let replies = entry.replies.slice();
+    assert_eq!(rt; replies.len(), 2);
+    let steps = [step(0, 2, 32768)];
+    assert_eq!(rt; told(&replies[0]), Some((steps.as_slice(), 6)));
+    assert_eq!(rt; &replies[1], &Reply::Unheld(Name(0)));
+    assert!(rt; is_good(rt.alloc(), &mesh, [5, 6, 0], 2)?);
+    Ok(())
+}

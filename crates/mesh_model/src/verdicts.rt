@@ -15,7 +15,7 @@ use crate::areas::Area;
 use crate::plain_mesh::PlainMesh;
 use mesh_data::{Name, Point, Reply, Tri};
 use std::alloc::{AllocError, Global};
-use triangle_edits::{apex, are_neighbours, is_closed_by_three, least_shared};
+use triangle_edits::{are_neighbours, has_corner, is_closed_by_three, least_shared, opposites};
 use triangle_lists::has_closed_ring;
 
 impl PlainMesh {
@@ -33,7 +33,7 @@ impl PlainMesh {
     fn frees(&self, area: &Area, v: Name, t: &Tri) -> bool
         ensures { result ≡ (not (has_corner v t.now) || list_all (is_held (is_inside area.now) self.now) (filter (λ w. not (w == v)) (corners t.now))) }
     {
-        if t.a != v && t.b != v && t.c != v {
+        if !has_corner(v, t) {
             return true;
         }
         (t.a == v || self.is_held(area, t.a))
@@ -159,10 +159,7 @@ impl PlainMesh {
             ∷ []) Done }
     {
         let tris = self.tris.as_slice();
-        let Some(c) = apex(tris, a, b) else {
-            return Reply::Border;
-        };
-        let Some(d) = apex(tris, b, a) else {
+        let Some((c, d)) = opposites(tris, a, b) else {
             return Reply::Border;
         };
         if are_neighbours(tris, c, d) {

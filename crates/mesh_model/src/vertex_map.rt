@@ -1,3 +1,5 @@
+//! The vertices of a mesh by their names.
+
 ghost use Rattle.std.specs.Prelude.{◌≡◌, ◌<◌, ◌+◌, ◌^◌, [], ◌∷◌, ◌++◌, map, length, slice_index_or, IfOk, OnOk, OnErr};
 ghost use Rattle.mesh_data.specs.Ascending.{IsAboveLast};
 ghost use Rattle.std.specs.Option.{option_copied, option_map, option_map_or};
@@ -43,6 +45,9 @@ impl VertexMap {
     }
 
     /// Vertices at these points with these planes, named by their places.
+    ///
+    /// # Errors
+    /// Want of memory.
     pub fn at_points(
         alloc: Global,
         points: &[Point],
@@ -116,6 +121,9 @@ impl VertexMap {
     }
 
     /// A copy.
+    ///
+    /// # Errors
+    /// Want of memory.
     pub fn copy(&self, alloc: Global) -> Result<VertexMap, AllocError>
         ensures { IfOk result (λ copy. copy ≡ self.now) }
     {
@@ -174,6 +182,9 @@ impl VertexMap {
     }
 
     /// The names, ascending.
+    ///
+    /// # Errors
+    /// Want of memory.
     pub fn names(&self, alloc: Global) -> Result<NameSet, AllocError>
         ensures { IfOk result (λ names. names ≡ finite.keys self.now) }
     {
@@ -185,6 +196,9 @@ impl VertexMap {
     }
 
     /// The points, in the order of the names.
+    ///
+    /// # Errors
+    /// Want of memory.
     pub fn points(&self, alloc: Global) -> Result<Points, AllocError>
         ensures { IfOk result (λ points. points ≡ map (λ x. x.point) (finite.values self.now)) }
     {

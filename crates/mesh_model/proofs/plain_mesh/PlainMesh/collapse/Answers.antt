@@ -1,13 +1,16 @@
 use Rattle.std.proofs.Common.{◌≡◌, ◌∙◌, true, All, ap, sym, subst, arith, length}
 use Rattle.std.specs.FinMap as finite
+use Rattle.std.specs.List.Sorted.{IsSorted}
 use Rattle.std.specs.Ordering.{nat_cmp}
 use Rattle.mesh_data.specs.declared.geometry.Vertex.{Vertex}
 use Rattle.mesh_data.specs.Edits.{collapsed_tris}
 use Rattle.mesh_data.specs.Manifold.{IsTriangleOf}
 use Rattle.mesh_data.specs.Mesh.{Mesh}
+use Rattle.mesh_data.specs.Triangles.{tri_cmp}
 use Rattle.mesh_model.specs.Taken.{taken_over}
 use Rattle.mesh_model.specs.Totals.{HasPlanes}
 use Rattle.mesh_model.proofs.Shares.{planes_taken_over, kept_taken_over, len-taken_over}
+use Rattle.mesh_model.proofs.Sorted.{sorted_collapsed}
 use Rattle.triangle_edits.proofs.Results.{triangles_collapsed}
 use Rattle.mesh_model.proofs.plain_mesh.PlainMesh.collapse.Goals as goal
 
@@ -31,4 +34,5 @@ invariant_of-self-2 c =
       omega (arith, few, ap length c.as_slice.ensures.value, c.self.invariant.1),
       subst (λ (k : finite.FinMap nat_cmp Vertex). All (IsTriangleOf k) c.in_ok-tris.tris.items) (sym vertices) (subst (All (IsTriangleOf n)) (sym tris) all),
       subst HasPlanes (sym vertices) (planes_taken_over m u v c.requires.apart there c.self.invariant.3),
+      subst (IsSorted tri_cmp) (sym tris) (sorted_collapsed u v c.self.inside.tris.items),
     )

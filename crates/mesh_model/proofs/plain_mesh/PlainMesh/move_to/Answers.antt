@@ -16,4 +16,5 @@ invariant_of-self c =
           (λ v. ap (λ (n : finite.FinMap nat_cmp Vertex). finite.contains_key n v) c.set_point.ensures.vertices ∙ contains-changed (λ x. record x { point = c.args.to }) c.args.v v m)
           c.self.invariant.2,
       planes_moved c.args.v c.args.to m c.set_point.new.self c.set_point.ensures.vertices c.self.invariant.3,
+      c.self.invariant.4,
     )

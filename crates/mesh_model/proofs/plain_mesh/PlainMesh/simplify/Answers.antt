@@ -3,10 +3,9 @@ use Rattle.std.specs.FinMap as finite
 use Rattle.std.specs.Int.{w128}
 use Rattle.std.proofs.lemmas.Int.{to_z-of_z}
 use Rattle.mesh_data.specs.Edits.{simplified}
-use Rattle.mesh_data.specs.Mesh.{Mesh}
 use Rattle.mesh_data.specs.Octree.{is_inside}
 use Rattle.mesh_model.proofs.Thinned.{made_by_steps}
-use Rattle.mesh_model.proofs.plain_mesh.PlainMesh.do_simplify.Goals as goal
+use Rattle.mesh_model.proofs.plain_mesh.PlainMesh.simplify.Goals as goal
 
 pub returns-clause-mesh : goal.returns-clause-mesh
 returns-clause-mesh c =
@@ -14,6 +13,5 @@ returns-clause-mesh c =
     let top = to_z w128 (of_z w128 c.args.max) in
     let same : top ≡ c.args.max = to_z-of_z w128 c.args.max (search rules) in
     c.in_ok-steps.ensures.mesh
-    ∙ ap (λ (m : Mesh). (simplified inside m top c.args.target).mesh) c.in_ok-mesh.ensures
     ∙ ap (λ (x : ℤ). (simplified inside c.args.self.now x c.args.target).mesh) same
     ∙ sym (made_by_steps (finite.len c.args.self.now.vertices) inside c.args.self.now c.args.max c.args.target)
