@@ -38,12 +38,6 @@ pub read_ahead : (old new : Told) (ahead more : List ℕ) → Takes old new more
 read_ahead old None ahead more taken = ap (left_with ahead) taken
 read_ahead old (Some rest) ahead more taken = ap (left_with ahead) taken ∙ ap Some (sym (append_assoc ahead more rest))
 
--- no byte was taken at the end
-pub at_end : (old new : Told) (more : List ℕ) → length more ≡ 0 → Takes old new more → IsAtEnd old → IsAtEnd new
-at_end old None more none taken end = tt
-at_end old (Some rest) [] none taken end = subst IsAtEnd taken end
-at_end old (Some rest) (x ∷ xs) none taken end = absurd (omega arith)
-
 -- the part copied to the front
 pub copied : (xs ys : List ℕ) (from to : ℕ) → from ≤ to → to ≤ length xs → length ys ≡ length xs → CopiedTo xs ys from 0 (to - from) → slice_range ys 0 (to - from) ≡ slice_range xs from to
 copied xs ys from to order within sizes same =

@@ -4,7 +4,7 @@ use Rattle.std.specs.List.{slice_range}
 use Rattle.std.proofs.lemmas.Bool.Decides.{nat_tests}
 use Rattle.std.proofs.lemmas.List.{get_or-take, get_or-drop, length-take, length-drop}
 use Rattle.memchr.specs.Find.{IsFirstByte, is_byte}
-use Rattle.oemm_lines.specs.Ends.{HasNoFeed}
+use Rattle.oemm_lines.specs.Lines.{HasNoFeed}
 
 same_byte : (bytes : List ℕ) (seen until k : ℕ) → k < until - seen → get_or (slice_range bytes seen until) k 0 ≡ get_or bytes (seen + k) 0
 same_byte bytes seen until k h = get_or-take (until - seen) (drop seen bytes) k 0 h ∙ get_or-drop seen bytes k 0

@@ -1,5 +1,5 @@
 -- What a call of a stream gives.
-use Rattle.std.proofs.Common.{◌≡◌, ◌≢◌, ℕ, suc, ◌+◌, ◌-◌, ◌<◌, ◌≤◌, ◌⊎◌, inl, inr, Bool, true, false, List, [], ◌∷◌, ◌++◌, length, get_or, take, drop, Option, Some, None, IfSome, Result, Ok, Err, refl, ap, sym, subst, ◌∙◌, append_assoc, append-nil, arith, ◌==◌, length-append, drop-cons, add-one}
+use Rattle.std.proofs.Common.{◌≡◌, ◌≢◌, ℕ, suc, ◌+◌, ◌-◌, ◌<◌, ◌≤◌, ◌⊎◌, inl, inr, Bool, true, false, List, [], ◌∷◌, ◌++◌, length, get_or, take, drop, Option, Some, None, IfSome, Result, Ok, Err, OnErr, refl, ap, sym, subst, ◌∙◌, append_assoc, append-nil, arith, ◌==◌, length-append, drop-cons, add-one}
 use Rattle.std.specs.Option.{option_map}
 use Rattle.std.specs.Result.{result_err}
 use Rattle.std.specs.List.{AllByRecursion}
@@ -11,8 +11,8 @@ use Rattle.oemm_lines.specs.declared.parts.Line.{Line}
 use Rattle.oemm_lines.specs.declared.parts.LineFault.{LineFault}
 use Rattle.oemm_lines.specs.declared.parts.LineFault.TheVariants.{Read, TooLong, Bytes, Memory}
 use Rattle.oemm_lines.specs.Lines.{without_return}
-use Rattle.oemm_lines.specs.Stream.{Flow, behind, fault_alone, nothing_more, told_lines, line_of, Stream, left_with, left_of, end_of, flow_by, flow_of, flow_left, IsLineEnd, GivesLine, StaysPut, GivesNext, GivesRaw, Says}
-use Rattle.oemm_lines.specs.Ends.{HasNoFeed}
+use Rattle.oemm_lines.specs.Stream.{Flow, behind, fault_alone, nothing_more, told_lines, line_of, Stream, left_with, left_of, end_of, flow_by, flow_of, flow_left, IsLineEnd, GivesLine, StaysPut, GivesNext, GivesRaw, Loses, Says}
+use Rattle.oemm_lines.specs.Lines.{HasNoFeed}
 use Rattle.oemm_lines.proofs.LineLaws.{no_feed}
 use Rattle.oemm_lines.proofs.WordPlaces.{word_texts, words_within}
 use Rattle.oemm_lines.proofs.FlowLaws.{told_lines-none, told_lines-ended, told_lines-feed_past, told_lines-last, told_lines-long, told_lines-past}
@@ -283,25 +283,6 @@ says_next told old new (Err Memory) calm same stands gives = tt
 says_next told old new (Err (TooLong at)) calm same stands gives = shown told old new (TooLong at) calm gives.0 same stands (gives.1 calm)
 says_next told old new (Err (Bytes taken)) calm same stands gives = shown told old new (Bytes taken) calm gives.0 same stands (gives.1 calm)
 
-all_fault : (f : List ℕ → Flow) (fault : LineFault) (left : Told) → ((bytes : List ℕ) → f bytes ≡ fault_alone fault) → IfSome (option_map f left) (λ flow. flow ≡ fault_alone fault)
-all_fault f fault None is = tt
-all_fault f fault (Some bytes) is = is bytes
-
--- a fault that stood is said again
-pub says_again : {S : Type 0} (told : S → Told) (old : Stream S) (fault : LineFault) → old.fault ≡ Some fault → Says (flow_left told old) (Err fault) (flow_left told old)
-says_again told old Read stands = tt
-says_again told old Memory stands = tt
-says_again told old (TooLong at) stands = (
-  all_fault (flow_of old) (TooLong at) (left_of told old)
-      (λ bytes. ap (λ f. flow_by f (told_lines old.comments old.budget old.at old.number bytes)) stands),
-  refl,
-)
-says_again told old (Bytes taken) stands = (
-  all_fault (flow_of old) (Bytes taken) (left_of told old)
-      (λ bytes. ap (λ f. flow_by f (told_lines old.comments old.budget old.at old.number bytes)) stands),
-  refl,
-)
-
 -- further bytes were taken from those that were read ahead
 pub filled_more : (all old : Told) (before now ahead bytes after : List ℕ) (n : ℕ) (left : Told) → Takes all old before → old ≡ left_with ahead left → now ≡ before ++ take n bytes → bytes ≡ ahead → after ≡ drop n ahead → Takes all (left_with after left) now
 filled_more all old before now ahead bytes after n left taken same copied lent rest =
@@ -311,6 +292,11 @@ filled_more all old before now ahead bytes after n left taken same copied lent r
     takes_more all old (left_with (drop n ahead) left) before (take n ahead) taken here
     ∙ ap (λ (t : List ℕ). option_map (λ (r : List ℕ). t ++ r) (left_with (drop n ahead) left)) (sym is)
     ∙ ap (λ (t : List ℕ). option_map (λ (r : List ℕ). now ++ r) (left_with t left)) (sym rest)
+
+-- whatever a call answers behind bytes that were taken, they are lost
+pub lost_more : {T E : Type 0} (all old left : Told) (taken : List ℕ) (result : Result T E) → Takes all old taken → old ≡ left → OnErr result (Loses all left)
+lost_more all old left taken (Ok x) took same = tt
+lost_more all old left taken (Err fault) took same = (taken, took ∙ ap (option_map (λ rest. taken ++ rest)) same)
 
 sizes_same : (at next : ℕ) (new old : Told) → new ≡ old → next ≡ at → option_map (λ rest. next + length rest) new ≡ option_map (λ rest. at + length rest) old
 sizes_same at next new old left place =

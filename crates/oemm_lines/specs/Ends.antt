@@ -1,12 +1,9 @@
 -- Where the next line ends among the bytes that were read ahead.
-use Rattle.std.specs.Prelude.{◌≡◌, ◌≢◌, ℕ, ◌+◌, ◌<◌, ◌≤◌, List, length, slice_index}
+use Rattle.std.specs.Prelude.{◌≡◌, ℕ, ◌+◌, ◌<◌, ◌≤◌, List, length, slice_index}
 use Rattle.fault_counts.specs.Told.{Told, IsAtEnd}
+use Rattle.oemm_lines.specs.Lines.{HasNoFeed}
 use Rattle.oemm_lines.specs.declared.ends.Found.{Found}
 use Rattle.oemm_lines.specs.declared.ends.Found.TheVariants.{Feed, Last, Long}
-
--- no line feed stands among the first bytes
-abbrev pub HasNoFeed : List ℕ → ℕ → Type 0
-HasNoFeed bytes n = (k : ℕ) → k < n → slice_index bytes k ≢ 10
 
 -- where the line ends that begins these bytes, behind which this is left; more than the limit isn't looked at
 abbrev pub IsFound : ℕ → List ℕ → Told → Found → Type 0

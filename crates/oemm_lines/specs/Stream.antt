@@ -4,7 +4,7 @@ use Rattle.std.specs.Option.{option_map}
 use Rattle.std.specs.List.{before_first}
 use Rattle.fault_counts.specs.Told.{Told, Takes, IsAtEnd}
 use Rattle.oemm_lines.specs.Words.{is_blank, begins_with_word, words_of}
-use Rattle.oemm_lines.specs.Lines.{without_return}
+use Rattle.oemm_lines.specs.Lines.{without_return, HasNoFeed}
 use Rattle.oemm_lines.specs.declared.parts.Word.{Word}
 use Rattle.oemm_lines.specs.declared.parts.Line.{Line}
 use Rattle.oemm_lines.specs.declared.parts.LineFault.{LineFault}
@@ -66,6 +66,13 @@ word_in bytes w = slice_range bytes w.from w.to
 abbrev pub IsWordIn : List ℕ → Word → Type 0
 IsWordIn bytes w = (w.from < w.to) × (w.to ≤ length bytes)
 
+-- the bytes of each word of a line, and that all of them lie in it
+abbrev pub texts_of : Line → List (List ℕ)
+texts_of l = map (word_in l.bytes) l.words
+
+abbrev pub IsPlaced : Line → Type 0
+IsPlaced l = All (IsWordIn l.bytes) l.words
+
 -- what is wrong with a line at this place: the part of it that is too long lies within the budget, or a byte of it lies past that
 abbrev pub line_fault : ℕ → ℕ → Body → Option LineFault
 line_fault budget at b =
@@ -119,6 +126,11 @@ pub record Stream (S : Type 0) : Type 0 where
   pub comments : Bool
   pub fault : Option LineFault
 
+-- the stream of a source of which nothing was asked for yet
+abbrev pub fresh_stream : {S : Type 0} → ℕ → Bool → S → Stream S
+fresh_stream budget comments source =
+    record { source = source; ahead = []; at = 0; number = 1; budget = budget; comments = comments; fault = None }
+
 -- the bytes that are left, where the source tells them
 abbrev pub left_with : List ℕ → Told → Told
 left_with ahead left = option_map (λ rest. ahead ++ rest) left
@@ -160,8 +172,8 @@ pub record GivesLine {S : Type 0} (told : S → Told) (old : Stream S) (line : L
   pub place : line.at ≡ old.at
   pub count : line.number ≡ old.number
   pub words : line.words ≡ words_in old.comments line.bytes
-  pub places : All (IsWordIn line.bytes) line.words
-  pub texts : map (word_in line.bytes) line.words ≡ words_of (uncommented old.comments line.bytes)
+  pub places : IsPlaced line
+  pub texts : texts_of line ≡ words_of (uncommented old.comments line.bytes)
   pub next_place : new.at ≡ old.at + length (line.bytes ++ end)
   pub next_count : new.number ≡ old.number + 1
   pub rises : old.at < new.at
@@ -185,9 +197,10 @@ Says old (Ok (Some line)) new = old ≡ option_map (behind line) new
 Says old (Ok None) new = IfSome old (λ f. f ≡ nothing_more) × (new ≡ old)
 Says old (Err fault) new = SaysFault old fault new
 
--- the bytes that were read ahead show the fault, whatever follows them
+-- the bytes that were read ahead show the fault, whatever follows them: the source was asked only where they show
+-- neither where the line ends nor that it is too long
 abbrev pub Shows : {S : Type 0} → Stream S → LineFault → Type 0
-Shows s Read = ⊤
+Shows s Read = HasNoFeed s.ahead (length s.ahead) × (length s.ahead ≤ longest) × (s.at + length s.ahead ≤ s.budget)
 Shows s Memory = ⊤
 Shows s (TooLong at) = (rest : List ℕ) → told_lines s.comments s.budget s.at s.number (s.ahead ++ rest) ≡ fault_alone (TooLong at)
 Shows s (Bytes taken) = (rest : List ℕ) → told_lines s.comments s.budget s.at s.number (s.ahead ++ rest) ≡ fault_alone (Bytes taken)
@@ -207,17 +220,23 @@ pub record GivesRaw {S : Type 0} (told : S → Told) (old : Stream S) (buf : Lis
   pub same_count : new.number ≡ old.number
   pub within : new.at ≤ new.budget
 
+-- some bytes were taken, and weren't given
+abbrev pub Loses : Told → Told → Type 0
+Loses old new = (bytes : List ℕ) × Takes old new bytes
+
 -- of so many bytes one lies past the budget
 abbrev pub NeedsPast : {S : Type 0} → (S → Told) → Stream S → ℕ → Type 0
 NeedsPast told s size = IfSome (left_of told s) (λ rest. s.budget < s.at + min size (length rest))
 
--- what a call of raw did, by what it answered
+-- why a call of raw gave nothing: the source was asked only for more than was read ahead
 abbrev pub RawFault : {S : Type 0} → (S → Told) → Stream S → ℕ → LineFault → Type 0
-RawFault told old size Read = ⊤
+RawFault told old size Read = length old.ahead < size
 RawFault told old size (TooLong at) = ⊥
-RawFault told old size (Bytes taken) = (taken ≡ old.budget) × NeedsPast told old size
+RawFault told old size (Bytes taken) = (taken ≡ old.budget) × (old.budget < old.at + size) × NeedsPast told old size
 RawFault told old size Memory = ⊥
 
+-- what a call of raw did, by what it answered
 abbrev pub RawGives : {S : Type 0} → (S → Told) → Stream S → List ℕ → Result ℕ LineFault → Stream S → Type 0
 RawGives told old buf (Ok n) new = GivesRaw told old buf n new
-RawGives told old buf (Err fault) new = old.fault ≡ None → RawFault told old (length buf) fault
+RawGives told old buf (Err fault) new =
+    Loses (left_of told old) (left_of told new) × (old.fault ≡ None → RawFault told old (length buf) fault)

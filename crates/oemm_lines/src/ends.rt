@@ -1,9 +1,10 @@
 //! Where the next line ends.
 
-ghost use Rattle.std.specs.Prelude.{◌≡◌, ◌<◌, ◌≤◌, length, slice_index, IfOk, MatchOption};
+ghost use Rattle.std.specs.Prelude.{◌≡◌, ◌<◌, ◌≤◌, length, slice_index, IfOk, OnErr, MatchOption};
 ghost use Rattle.fault_counts.specs.Counts.{HasCause};
 ghost use Rattle.oemm_lines.specs.Stream.{left_with};
-ghost use Rattle.oemm_lines.specs.Ends.{HasNoFeed, IsFound};
+ghost use Rattle.oemm_lines.specs.Lines.{HasNoFeed};
+ghost use Rattle.oemm_lines.specs.Ends.{IsFound};
 
 use super::ahead::Ahead;
 use memchr::memchr;
@@ -42,6 +43,7 @@ pub fn find_end<S: Source>(source: &mut S, ahead: &mut Ahead, limit: usize) -> R
     requires { limit ≤ 65536 }
     ensures left { left_with ahead.old (S.left source.old) ≡ left_with ahead.new (S.left source.new) }
     ensures found { IfOk result (λ found. IsFound limit ahead.new (S.left source.new) found) }
+    ensures open { OnErr result ((length ahead.new ≤ limit) × HasNoFeed ahead.new (length ahead.new)) }
     ensures cause { HasCause (S.faults source.old) (S.faults source.new) result }
 {
     let mut seen = 0;

@@ -1,3 +1,5 @@
+//! What follows from the definitions of lines, words and numbers.
+
 ghost use Rattle.std.specs.Prelude.{◌≡◌, ◌≢◌, ℕ, ◌+◌, ◌^◌, ◌<◌, ◌≤◌, Bool, map, List, [], ◌∷◌, ◌++◌, length, true, false, Some, ℤ, nat_abs, All};
 ghost use Rattle.std.specs.Fmt.{decimal, signed_decimal};
 ghost use Rattle.oemm_lines.specs.Words.{is_blank, words_of};

@@ -5,6 +5,7 @@ mod ahead;
 mod ends;
 mod fills;
 mod laws;
+mod line_words;
 mod lines;
 mod numbers;
 mod parts;
@@ -17,7 +18,7 @@ mod tests;
 mod words;
 
 pub use laws::{number_laws, told_line_laws, word_laws, word_place_laws};
+pub use line_words::WordsLeft;
 pub use numbers::{integer, whole};
 pub use parts::{Line, LineFault, Word, Words};
 pub use stream::Lines;
-pub use words::next_word;

@@ -38,6 +38,9 @@ fn words_of_bytes(alloc: Global, text: &[u8]) -> Result<Words, AllocError>
 }
 
 /// The words of a line's bytes.
+///
+/// # Errors
+/// Want of memory.
 pub fn words_of_line(alloc: Global, text: &[u8], comments: bool) -> Result<Words, AllocError>
     requires { length text.now < 2 ^ 32 }
     ensures { IfOk result (λ words. words ≡ words_in comments text.now) }

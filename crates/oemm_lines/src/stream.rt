@@ -50,7 +50,8 @@ impl<S> Model for Lines<S> {
 }
 
 impl<S> Lines<S> {
-    ghost use Rattle.std.specs.Prelude.{◌≡◌, [], None, IfOk, IfErr};
+    ghost use Rattle.std.specs.Prelude.{◌≡◌, IfOk, IfErr};
+    ghost use Rattle.oemm_lines.specs.Stream.{fresh_stream};
 
     /// A reader of the source's lines, of which it wants no byte past the first `budget`. Where there are comments,
     /// `#` begins one, which goes on to the end of its line.
@@ -63,15 +64,7 @@ impl<S> Lines<S> {
         budget: u64,
         comments: bool,
     ) -> Result<Lines<S>, (S, AllocError)>
-        ensures ok { IfOk result (λ lines. lines ≡ record {
-          source = source;
-          ahead = [];
-          at = 0;
-          number = 1;
-          budget = budget;
-          comments = comments;
-          fault = None;
-        }) }
+        ensures ok { IfOk result (λ lines. lines ≡ fresh_stream budget comments source) }
         ensures err { IfErr result (λ back. back.0 ≡ source) }
     {
         match Ahead::new(alloc) {
@@ -141,8 +134,8 @@ impl<S: Source> Lines<S> {
     /// room for at the end of the source alone. They are no lines, and aren't counted as such.
     ///
     /// # Errors
-    /// `Read` where the source fails, and `Bytes` where one of these bytes lies past the budget. Once a fault was
-    /// answered, each later call answers it again.
+    /// `Read` where the source fails, and `Bytes` where one of these bytes lies past the budget. Some of the bytes may
+    /// be lost then. Once a fault was answered, each later call answers it again.
     pub fn raw(&mut self, buf: &mut [u8]) -> Result<usize, LineFault>
         ensures again { IfSome self.old.fault (λ fault. (result ≡ Err fault) × (self.new ≡ self.old)) }
         ensures stands { self.new.fault ≡ result_err result }

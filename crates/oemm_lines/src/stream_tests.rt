@@ -1,6 +1,6 @@
 //! Lines of sources that give one byte at a take, three, and all.
 
-use super::{Line, LineFault, Lines, Word};
+use super::{Line, LineFault, Lines, Word, WordsLeft};
 use oemm_io::{MemSource, Source};
 use std::alloc::{AllocError, Global};
 use std::test::Fail;
@@ -358,6 +358,28 @@ fn long_lines(rt: HostRuntime) -> Result<(), Fail> {
             assert_eq!(rt; second_line(rt.alloc(), text, piece, *budget), *wanted);
         }
     }
+    Ok(())
+}
+
+/// Whether the words that are left are these.
+fn are_left(mut words: WordsLeft<'_>, wanted: &[&[u8]]) -> bool {
+    for word in wanted {
+        if words.next() != Some(*word) {
+            return false;
+        }
+    }
+    words.next().is_none()
+}
+
+#[test]
+fn words_of_a_line(rt: HostRuntime) -> Result<(), Fail> {
+    let text = Vec::from_slice(rt.alloc(), b" \tab\tc d # e\n")?;
+    let mut lines = reader(rt.alloc(), text, 3, 0, AMPLE, true)?;
+    let line = lines.next()?.expect(&rt, "there is a line");
+    assert_eq!(rt; line.word(0), Some(b"ab".as_slice()));
+    assert_eq!(rt; line.word(2), Some(b"d".as_slice()));
+    assert_eq!(rt; line.word(3), None);
+    assert!(rt; are_left(line.words_left(), &[b"ab", b"c", b"d"]));
     Ok(())
 }
 

@@ -1,14 +1,4 @@
-use super::{integer, next_word, whole};
-
-#[test]
-fn words(rt: HostRuntime) {
-    assert_eq!(rt;
-        next_word(b" \tab\tc d"),
-        Some((b"ab".as_slice(), b"\tc d".as_slice()))
-    );
-    assert_eq!(rt; next_word(b"ab"), Some((b"ab".as_slice(), b"".as_slice())));
-    assert_eq!(rt; next_word(b"\t "), None);
-}
+use super::{integer, whole};
 
 #[test]
 fn numbers(rt: HostRuntime) {

@@ -1,5 +1,5 @@
 use Rattle.std.proofs.Common.{◌≡◌, ◌≤◌, ◌+◌, ◌-◌, length}
-use Rattle.oemm_lines.specs.Ends.{HasNoFeed}
+use Rattle.oemm_lines.specs.Lines.{HasNoFeed}
 use Rattle.oemm_lines.specs.Stream.{left_with}
 use Rattle.oemm_lines.proofs.ends.find_end.Given as goal
 

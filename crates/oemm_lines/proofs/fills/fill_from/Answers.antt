@@ -1,5 +1,5 @@
-use Rattle.std.proofs.Common.{arith}
-use Rattle.oemm_lines.proofs.StreamLaws.{filled_more}
+use Rattle.std.proofs.Common.{ap, length, length-drop, arith}
+use Rattle.oemm_lines.proofs.StreamLaws.{filled_more, lost_more}
 use Rattle.oemm_lines.proofs.fills.fill_from.Goals as goal
 
 pub loop-filled-preserved : goal.loop-filled-preserved
@@ -7,5 +7,9 @@ loop-filled-preserved g c = record {
   in_range = omega arith;
   in_room = omega arith;
   taken = filled_more _ _ _ _ _ _ _ _ _ c.loop-filled.invariant.taken c.in_ok-some_ahead.ensures.left c.copy_behind-count.ensures.bytes c.bytes.ensures c.skip.ensures;
+  given = omega (arith, ap length c.skip.ensures, length-drop c.copy_behind-count.result c.some_ahead.new.ahead);
   kept = omega arith;
 }
+
+pub returns-in_err-some_ahead-clause-lost : goal.returns-in_err-some_ahead-clause-lost
+returns-in_err-some_ahead-clause-lost g c = lost_more _ _ _ _ _ c.loop-filled.invariant.taken c.in_err-some_ahead.ensures.left
