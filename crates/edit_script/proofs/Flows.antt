@@ -1,23 +1,28 @@
 -- What the lines of held bytes say, call by call.
-use Rattle.std.proofs.Common.{◌≡◌, ℕ, Bool, true, List, [], ◌++◌, Option, Some, None, Ok, Err, IsErrOf, ◌⊎◌, inl, inr, refl, ap, subst, ◌∙◌, arith}
+use Rattle.std.proofs.Common.{◌≡◌, ℕ, true, List, ◌++◌, Option, Some, None, Ok, Err, IsErrOf, ◌⊎◌, inl, inr, refl, ap, subst, ◌∙◌, arith}
 use Rattle.fault_counts.specs.Counts.{Rose}
 use Rattle.fault_counts.specs.Told.{Told}
 use Rattle.oemm_lines.specs.declared.parts.Line.{Line}
 use Rattle.oemm_lines.specs.declared.parts.LineFault.{LineFault}
 use Rattle.oemm_lines.specs.declared.parts.LineFault.TheVariants as line
 use Rattle.oemm_lines.specs.declared.parts.LineFault.TheVariants.{TooLong, Bytes}
-use Rattle.oemm_lines.specs.Stream.{Flow, Stream, GivesLine, GivesNext, Says, behind, nothing_more, flow_by, told_lines}
+use Rattle.oemm_lines.specs.Stream.{Flow, Stream, GivesLine, GivesNext, Says, behind, nothing_more, flow_of, fresh_stream, told_lines}
 use Rattle.mesh_data.specs.declared.edits.Task.{Task}
 use Rattle.edit_script.specs.Grammar.{fault_of_line, most_bytes, tasks_of}
 use Rattle.edit_script.specs.Script.{StopsBy}
 use Rattle.edit_script.proofs.Readings.{tasks_stop}
 
 -- before the first call
-pub flow_begins :
-    (comments : Bool) (budget at number : ℕ) (ahead left bytes : List ℕ) (fault : Option LineFault) →
-    left ≡ bytes → ahead ≡ [] → at ≡ 0 → number ≡ 1 → budget ≡ most_bytes → comments ≡ true → fault ≡ None →
-    flow_by fault (told_lines comments budget at number (ahead ++ left)) ≡ told_lines true most_bytes 0 1 bytes
-flow_begins comments budget at number ahead left bytes fault a b c d e f g = rw (a, b, c, d, e, f, g)
+pub fresh_flow : {S : Type 0} (s : Stream S) (left bytes : List ℕ) → s ≡ fresh_stream most_bytes true s.source → left ≡ bytes → flow_of s (s.ahead ++ left) ≡ told_lines true most_bytes 0 1 bytes
+fresh_flow {S} s left bytes fresh same = ap (λ (t : Stream S). flow_of t (t.ahead ++ left)) fresh ∙ ap (told_lines true most_bytes 0 1) same
+
+pub begins_there : {S : Type 0} (s : Stream S) → s ≡ fresh_stream most_bytes true s.source → (s.at ≡ 0) × (s.number ≡ 1) × (s.fault ≡ None) × (s.budget ≡ most_bytes)
+begins_there {S} s fresh = (
+  ap (λ (t : Stream S). t.at) fresh,
+  ap (λ (t : Stream S). t.number) fresh,
+  ap (λ (t : Stream S). t.fault) fresh,
+  ap (λ (t : Stream S). t.budget) fresh,
+)
 
 -- a line was given
 pub line_told : (old new : Flow) (answer : Option Line) (l : Line) → answer ≡ Some l → Says (Some old) (Ok answer) (Some new) → old ≡ behind l new

@@ -4,3 +4,4 @@ pub mod Flows
 pub mod Limits
 pub mod Readings
 pub mod Tasks
+pub mod Tellings

@@ -9,14 +9,14 @@ use Rattle.oemm_io.specs.declared.whole.TakeFault.TheVariants.{Failed}
 use Rattle.oemm_lines.specs.declared.parts.Word.{Word}
 use Rattle.oemm_lines.specs.declared.parts.Line.{Line}
 use Rattle.oemm_lines.specs.declared.parts.LineFault.{LineFault}
-use Rattle.oemm_lines.specs.Stream.{Flow, behind, fault_alone, nothing_more, told_lines}
+use Rattle.oemm_lines.specs.Stream.{Flow, texts_of, behind, fault_alone, nothing_more, told_lines}
 use Rattle.mesh_data.specs.declared.edits.Task.{Task}
 use Rattle.mesh_data.specs.declared.edits.Script.{Script}
 use Rattle.mesh_data.specs.declared.items.What.TheVariants.{ScriptBytes}
 use Rattle.edit_script.specs.declared.fault.ScriptFault.{ScriptFault}
 use Rattle.edit_script.specs.declared.fault.ScriptFault.TheVariants.{Read, Syntax, TooMany, Memory}
 use Rattle.edit_script.specs.Line.{line_says}
-use Rattle.edit_script.specs.Grammar.{after_line, line_words, has_words, fault_of_line, tasks_after, tasks_of, script_of, most_bytes, ◌>>=◌}
+use Rattle.edit_script.specs.Grammar.{after_line, has_words, fault_of_line, tasks_after, tasks_of, script_of, most_bytes, ◌>>=◌}
 use Rattle.edit_script.specs.Script.{StopsBy, GivesScript, fault_of_take}
 
 -- a line has words, unless it has none
@@ -34,7 +34,7 @@ tasks_passed tasks l flow none =
 -- the lines from one with words on
 tasks_from :
     (tasks : List Task) (l : Line) (flow : Flow) → l.words ≢ [] →
-    tasks_of tasks (behind l flow) ≡ (after_line l.number tasks (line_says (line_words l)) >>= λ more. tasks_of more flow)
+    tasks_of tasks (behind l flow) ≡ (after_line l.number tasks (line_says (texts_of l)) >>= λ more. tasks_of more flow)
 unfolding tasks_after
 tasks_from tasks l flow some =
     let there : has_words l ≡ true = words_there l.words some in
@@ -43,7 +43,7 @@ tasks_from tasks l flow some =
 -- a line that is read
 pub tasks_read :
     (tasks more : List Task) (l : Line) (flow : Flow) → l.words ≢ [] →
-    after_line l.number tasks (line_says (line_words l)) ≡ Ok more →
+    after_line l.number tasks (line_says (texts_of l)) ≡ Ok more →
     tasks_of tasks (behind l flow) ≡ tasks_of more flow
 tasks_read tasks more l flow some read =
     tasks_from tasks l flow some
@@ -60,11 +60,11 @@ stops_first first next Memory h = tt
 -- a line with a fault
 pub tasks_fault :
     (tasks : List Task) (l : Line) (flow : Flow) (fault : ScriptFault) → l.words ≢ [] →
-    StopsBy fault (after_line l.number tasks (line_says (line_words l))) →
+    StopsBy fault (after_line l.number tasks (line_says (texts_of l))) →
     StopsBy fault (tasks_of tasks (behind l flow))
 tasks_fault tasks l flow fault some stops =
     subst (StopsBy fault) (sym (tasks_from tasks l flow some))
-    (stops_first (after_line l.number tasks (line_says (line_words l))) (λ more. tasks_of more flow) fault stops)
+    (stops_first (after_line l.number tasks (line_says (texts_of l))) (λ more. tasks_of more flow) fault stops)
 
 -- no further line
 pub tasks_none : (tasks : List Task) → tasks_of tasks nothing_more ≡ Ok tasks
@@ -85,7 +85,7 @@ script_of_short bytes h =
     ap (λ (long : Bool). cond long (Err (TooMany ScriptBytes most_bytes)) (tasks_of [] (told_lines true most_bytes 0 1 bytes))) within
 
 -- a script above the limit of bytes
-script_of_long :
+pub script_of_long :
     (bytes : List ℕ) → most_bytes < length bytes → script_of bytes ≡ Err (TooMany ScriptBytes most_bytes)
 unfolding script_of
 script_of_long bytes h =

@@ -41,7 +41,7 @@ count_at counts tasks lane other h size e = by (lane == other) refl
         get_or-set_other counts lane other (slice_index counts lane + 1) 0 apart ∙ e ∙ omega arith
 
 -- a new task has the next number
-numbered_task :
+pub numbered_task :
     (tasks : List Task) (task : Task) → task.number ≡ lane_count task.lane tasks → AreNumbered tasks →
     AreNumbered (tasks ++ task ∷ [])
 numbered_task tasks task n numbered k d h = by (cases_eq k (length tasks))

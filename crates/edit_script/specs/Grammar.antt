@@ -1,7 +1,7 @@
 -- The tasks that the bytes of a script say, or the first fault.
-use Rattle.std.specs.Prelude.{ℕ, ◌+◌, ◌==◌, nat_lt, Bool, true, List, [], ◌∷◌, ◌++◌, length, map, count_by, Option, Some, None, Result, Ok, Err, if◌then◌else◌}
+use Rattle.std.specs.Prelude.{ℕ, ◌+◌, ◌==◌, nat_lt, Bool, true, List, [], ◌∷◌, ◌++◌, length, count_by, Option, Some, None, Result, Ok, Err, if◌then◌else◌}
 use Rattle.std.specs.List.{filter}
-use Rattle.oemm_lines.specs.Stream.{longest, word_in, Flow, told_lines}
+use Rattle.oemm_lines.specs.Stream.{longest, texts_of, Flow, told_lines}
 use Rattle.oemm_lines.specs.declared.parts.Line.{Line}
 use Rattle.oemm_lines.specs.declared.parts.LineFault.{LineFault}
 use Rattle.oemm_lines.specs.declared.parts.LineFault.TheVariants as line
@@ -73,10 +73,6 @@ after_line number tasks (Ok (TaskLine lane low high)) = with_task tasks lane low
 after_line number tasks (Ok (EditLine edit)) = with_edit number tasks edit
 after_line number tasks (Err why) = Err (Syntax number why)
 
--- the words of a line
-abbrev pub line_words : Line → List (List ℕ)
-line_words l = map (word_in l.bytes) l.words
-
 -- whether the line has a word
 abbrev pub has_words : Line → Bool
 has_words l = nat_lt 0 (length l.words)
@@ -97,7 +93,7 @@ tasks_at_end tasks (Some fault) = Err (fault_of_line fault)
 unfoldable pub tasks_after : List Task → List Line → Option LineFault → Result (List Task) ScriptFault
 tasks_after tasks [] end = tasks_at_end tasks end
 tasks_after tasks (l ∷ lines) end = do
-  more ← after_line l.number tasks (line_says (line_words l))
+  more ← after_line l.number tasks (line_says (texts_of l))
   tasks_after more lines end
 
 -- the same after those lines of a flow that have words

@@ -1,7 +1,9 @@
-ghost use Rattle.std.specs.Prelude.{◌≡◌, ◌<◌, ◌^◌, ℕ, List, All, OnOk, IfErr, IfOk};
-ghost use Rattle.oemm_lines.specs.Stream.{IsWordIn};
+//! The tasks of a script that is read line by line.
+
+ghost use Rattle.std.specs.Prelude.{◌≡◌, ◌<◌, ◌^◌, ℕ, List, OnOk, IfErr};
+ghost use Rattle.oemm_lines.specs.Stream.{texts_of, IsPlaced};
 ghost use Rattle.edit_script.specs.Line.{line_says};
-ghost use Rattle.edit_script.specs.Grammar.{with_task, with_edit, after_line, line_words};
+ghost use Rattle.edit_script.specs.Grammar.{with_task, with_edit, after_line};
 ghost use Rattle.edit_script.specs.Ranges.{IsBox, IsEdit, AreTasks, IsDraft};
 ghost use Rattle.edit_script.specs.Script.{StopsBy};
 
@@ -53,9 +55,9 @@ impl Draft {
     /// Reads the next line. After an error it isn't said which tasks there are.
     pub fn read_line(&mut self, alloc: Global, line: &Line) -> Result<(), ScriptFault>
         requires number { line.now.number < 2 ^ 32 }
-        requires places { All (IsWordIn line.now.bytes) line.now.words }
-        ensures ok { OnOk result (after_line line.now.number self.old (line_says (line_words line.now)) ≡ Ok self.new) }
-        ensures err { IfErr result (λ fault. StopsBy fault (after_line line.now.number self.old (line_says (line_words line.now)))) }
+        requires places { IsPlaced line.now }
+        ensures ok { OnOk result (after_line line.now.number self.old (line_says (texts_of line.now)) ≡ Ok self.new) }
+        ensures err { IfErr result (λ fault. StopsBy fault (after_line line.now.number self.old (line_says (texts_of line.now)))) }
     {
         let number = line.number as u32;
         match line_meaning(line) {

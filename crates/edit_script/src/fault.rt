@@ -1,3 +1,5 @@
+//! The faults of a script.
+
 ghost use Rattle.std.specs.Prelude.{◌≡◌};
 
 use mesh_data::{ScriptWhy, What};

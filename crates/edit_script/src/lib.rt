@@ -10,8 +10,7 @@ mod numbers;
 mod script;
 #[cfg(test)]
 mod tests;
-mod words;
 
 pub use fault::ScriptFault;
-pub use laws::line_limit_law;
+pub use laws::{line_limit_law, script_fault_laws, script_laws, script_limit_laws};
 pub use script::read_script;

@@ -1,14 +1,14 @@
-ghost use Rattle.std.specs.Prelude.{◌≡◌, ◌<◌, [], ◌∷◌, All, length, IfOk, OnOk, IfErr};
+//! What a line of a script says.
+
+ghost use Rattle.std.specs.Prelude.{◌≡◌, ◌<◌, [], ◌∷◌, length, IfOk, OnOk, IfErr};
 ghost use Rattle.oemm_lines.specs.Numbers.{whole_of};
-ghost use Rattle.oemm_lines.specs.Stream.{IsWordIn};
+ghost use Rattle.oemm_lines.specs.Stream.{texts_of, IsPlaced};
 ghost use Rattle.edit_script.specs.Ranges.{IsWithin};
 ghost use Rattle.edit_script.specs.Line.{point_of, name_of, most_of, triangles_of, task_within, task_of, move_of, collapse_of, flip_of, simplify_of, task_says, move_says, collapse_says, flip_says, simplify_says, line_says};
-ghost use Rattle.edit_script.specs.Grammar.{line_words};
 
 use crate::numbers::{is_box, most, name, point, triangles};
-use crate::words::WordsLeft;
 use mesh_data::{Edit, Point, ScriptWhy};
-use oemm_lines::{Line, whole};
+use oemm_lines::{Line, WordsLeft, whole};
 
 /// What a line says.
 #[derive(Clone, Copy)]
@@ -201,11 +201,11 @@ fn simplify_meaning(words: &mut WordsLeft<'_>) -> Result<LineMeaning, ScriptWhy>
 /// What a line says.
 #[tactic(auto, unfolding(crate::specs::Line::line_says))]
 pub fn line_meaning(line: &Line) -> Result<LineMeaning, ScriptWhy>
-    requires { All (IsWordIn line.now.bytes) line.now.words }
-    ensures value { result ≡ line_says (line_words line.now) }
+    requires { IsPlaced line.now }
+    ensures value { result ≡ line_says (texts_of line.now) }
     ensures within { IfOk result IsWithin }
 {
-    let mut words = WordsLeft::new(line);
+    let mut words = line.words_left();
     let Some(first) = words.next() else {
         return Err(ScriptWhy::Word);
     };

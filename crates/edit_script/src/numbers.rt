@@ -1,3 +1,5 @@
+//! The names, points, bounds and counts that words write.
+
 ghost use Rattle.std.specs.Prelude.{◌≡◌, ◌^◌, ◌≤◌, IfSome};
 ghost use Rattle.edit_script.specs.Line.{coordinate_of, name_of, most_of, triangles_of, point_of, is_box};
 ghost use Rattle.edit_script.specs.Ranges.{IsCostBound};

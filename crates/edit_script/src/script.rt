@@ -1,6 +1,10 @@
-ghost use Rattle.std.specs.Prelude.{◌≡◌, ◌≤◌, ◌^◌, [], true, None, OnOk, IfOk, IfErr, IfSome, IsErrOf, length};
+//! A script that is read from its source.
+
+ghost use Rattle.std.specs.Prelude.{◌≡◌, ◌≤◌, ◌^◌, true, OnOk, IfOk, IfErr, IfSome, IsErrOf, length};
 ghost use Rattle.fault_counts.specs.Counts.{Rose};
 ghost use Rattle.fault_counts.specs.Told.{IsAtEnd};
+ghost use Rattle.oemm_io.specs.Whole.{TakesSome};
+ghost use Rattle.oemm_lines.specs.Stream.{fresh_stream};
 ghost use Rattle.edit_script.specs.Grammar.{most_bytes, script_of};
 ghost use Rattle.edit_script.specs.Ranges.{AreTasks};
 ghost use Rattle.edit_script.specs.Script.{StopsBy, GivesScript, TakesScript, fault_of_take};
@@ -22,6 +26,7 @@ pub fn read_script<S: Source>(alloc: Global, source: S) -> (S, Result<Script, Sc
     ensures told { IfSome (S.left source) (λ bytes. GivesScript result.1 (script_of bytes)) }
     ensures read { IsErrOf result.1 ScriptFault.Read → Rose (S.faults source) (S.faults result.0) }
     ensures kept { S.faults source ≤ S.faults result.0 }
+    ensures some { TakesSome (S.left source) (S.left result.0) }
     ensures ok { IfOk result.1 (TakesScript (S.left source) (S.left result.0)) }
     ensures ok_end { OnOk result.1 (IsAtEnd (S.left result.0)) }
     ensures ranges { IfOk result.1 (λ script. AreTasks script.tasks) }
@@ -50,9 +55,8 @@ fn fault_of_take(fault: TakeFault) -> ScriptFault
 
 /// The lines of these bytes, with comments.
 fn held_lines(alloc: Global, bytes: &[u8]) -> Result<Lines<HeldBytes<'_>>, AllocError>
-    ensures bytes { IfOk result (λ lines. (lines.source.left.now ≡ bytes.now) × (lines.ahead ≡ [])) }
-    ensures begin { IfOk result (λ lines. (lines.at ≡ 0) × (lines.number ≡ 1) × (lines.fault ≡ None)) }
-    ensures form { IfOk result (λ lines. (lines.budget ≡ most_bytes) × (lines.comments ≡ true)) }
+    ensures bytes { IfOk result (λ lines. lines.source.left.now ≡ bytes.now) }
+    ensures fresh { IfOk result (λ lines. lines ≡ fresh_stream most_bytes true lines.source) }
 {
     match Lines::new(alloc, HeldBytes { left: bytes }, MOST_BYTES as u64, true) {
         Ok(lines) => Ok(lines),

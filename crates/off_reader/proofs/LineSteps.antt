@@ -1,5 +1,5 @@
 -- What is left behind a line that was taken, and where none is left.
-use Rattle.std.proofs.Common.{◌≡◌, ℕ, ◌+◌, true, false, List, [], length, Option, Some, None, IfSome, refl, ap, arith}
+use Rattle.std.proofs.Common.{◌≡◌, ℕ, ◌+◌, true, false, List, [], length, Option, Some, None, IfSome, refl, arith}
 use Rattle.std.specs.Option.{option_map}
 use Rattle.fault_counts.specs.Told.{Told, IsAtEnd}
 use Rattle.mesh_data.specs.declared.items.MeshFault.TheVariants.{Read, Text}
@@ -9,7 +9,9 @@ use Rattle.oemm_lines.specs.declared.parts.LineFault.{LineFault}
 use Rattle.oemm_lines.specs.declared.parts.LineFault.TheVariants as line
 use Rattle.oemm_lines.specs.Stream as stream
 use Rattle.oemm_lines.specs.Stream.{Flow, Stream, left_with, left_of, end_of, flow_left, IsDrained, StaysPut, SaysFault}
-use Rattle.off_reader.specs.Grammar.{Filled, IsOfText, end_fault, has_words}
+use Rattle.mesh_reading.specs.Results.{IsOfText}
+use Rattle.mesh_reading.specs.Faults.{fault_of}
+use Rattle.off_reader.specs.Grammar.{Filled, has_words}
 use Rattle.off_reader.specs.Reader.{filled_by, filled_left, led_by, with_line, ended_by}
 
 -- a line was taken
@@ -34,33 +36,27 @@ filled_cut told old new drained same none stays =
     cut_at new.at (end_of told new) (end_of told old) (flow_left told old) (flow_left told new)
     (end_at new.at new.ahead (told new.source) drained.0 drained.1) same none stays
 
--- a fault of the lines is the same in a source of any size
-any_size : (size : ℕ) (fault : LineFault) → end_fault size (Some fault) ≡ end_fault 0 (Some fault)
-any_size size line.Read = refl
-any_size size (line.TooLong at) = refl
-any_size size (line.Bytes taken) = refl
-any_size size line.Memory = refl
-
-stopped_at : (size old_size : Option ℕ) (old new : Option Flow) (fault : LineFault) → size ≡ old_size → IfSome old (λ f. f ≡ stream.fault_alone fault) → new ≡ old → filled_by old_size old ≡ option_map (λ f. ended_by (end_fault 0 (Some fault))) (filled_by size new)
+-- a fault of the lines
+stopped_at : (size old_size : Option ℕ) (old new : Option Flow) (fault : LineFault) → size ≡ old_size → IfSome old (λ f. f ≡ stream.fault_alone fault) → new ≡ old → filled_by old_size old ≡ option_map (λ f. ended_by (fault_of fault)) (filled_by size new)
 stopped_at None old_size old new fault same alone stays = rw (← same) refl
 stopped_at (Some size) old_size None new fault same alone stays = rw (← same, stays) refl
 stopped_at (Some size) old_size (Some flow) new fault same alone stays =
-    rw (← same, stays, alone) (ap (λ end. Some (ended_by end)) (any_size size fault))
+    rw (← same, stays, alone) refl
 
-stopped_by : (size old_size : Option ℕ) (old new : Option Flow) (fault : LineFault) → size ≡ old_size → SaysFault old fault new → IsOfText (end_fault 0 (Some fault)) → filled_by old_size old ≡ option_map (λ f. ended_by (end_fault 0 (Some fault))) (filled_by size new)
+stopped_by : (size old_size : Option ℕ) (old new : Option Flow) (fault : LineFault) → size ≡ old_size → SaysFault old fault new → IsOfText (fault_of fault) → filled_by old_size old ≡ option_map (λ f. ended_by (fault_of fault)) (filled_by size new)
 stopped_by size old_size old new line.Read same says text = absurd text
 stopped_by size old_size old new (line.TooLong at) same says text = stopped_at size old_size old new (line.TooLong at) same says.0 says.1
 stopped_by size old_size old new (line.Bytes taken) same says text = stopped_at size old_size old new (line.Bytes taken) same says.0 says.1
 stopped_by size old_size old new line.Memory same says text = absurd text
 
 -- the lines stop with a fault
-pub filled_fault : {S : Type 0} (told : S → Told) (old new : Stream S) (fault : LineFault) → StaysPut told old new → SaysFault (flow_left told old) fault (flow_left told new) → IsOfText (end_fault 0 (Some fault)) → filled_left told old ≡ option_map (λ f. ended_by (end_fault 0 (Some fault))) (filled_left told new)
+pub filled_fault : {S : Type 0} (told : S → Told) (old new : Stream S) (fault : LineFault) → StaysPut told old new → SaysFault (flow_left told old) fault (flow_left told new) → IsOfText (fault_of fault) → filled_left told old ≡ option_map (λ f. ended_by (fault_of fault)) (filled_left told new)
 filled_fault told old new fault stays says text =
     stopped_by (end_of told new) (end_of told old) (flow_left told old) (flow_left told new) fault
     (rw (stays.left, stays.place) refl) says text
 
 -- a fault of reading is one of the source
-pub read_by_source : (fault : LineFault) → end_fault 0 (Some fault) ≡ Read → fault ≡ line.Read
+pub read_by_source : (fault : LineFault) → fault_of fault ≡ Read → fault ≡ line.Read
 read_by_source line.Read is = refl
 read_by_source (line.TooLong at) is = cc
 read_by_source (line.Bytes taken) is = cc

@@ -1,6 +1,6 @@
 -- What an OFF mesh says, as a function of its lines and of the fault that stands behind them.
 -- Of each line, at is the number of bytes before it, and its words are looked at one by one.
-use Rattle.std.specs.Prelude.{ℕ, ◌+◌, ◌-◌, ◌^◌, Bool, true, false, ◌||◌, ◌==◌, nat_lt, nat_le, ℤ, pos, negsuc, List, [], ◌∷◌, length, map, All, slice_get, if◌then◌else◌, Option, Some, None, Result, Ok, Err, ⊤}
+use Rattle.std.specs.Prelude.{ℕ, ◌+◌, ◌-◌, ◌^◌, Bool, true, false, ◌==◌, nat_lt, nat_le, ℤ, List, [], ◌∷◌, length, slice_get, if◌then◌else◌, Option, Some, None, Result, Ok, Err}
 use Rattle.std.specs.Option.{ok_or}
 use Rattle.std.specs.List.{filter}
 use Rattle.std.specs.Str.{bytes_eq}
@@ -10,51 +10,24 @@ use Rattle.mesh_data.specs.declared.geometry.Tri.{Tri}
 use Rattle.mesh_data.specs.declared.items.Item.{Item}
 use Rattle.mesh_data.specs.declared.items.Item.TheVariants.{Counts, Vertex, Face}
 use Rattle.mesh_data.specs.declared.items.What.{What}
-use Rattle.mesh_data.specs.declared.items.What.TheVariants.{Vertices, Faces, MeshBytes, LineBytes}
+use Rattle.mesh_data.specs.declared.items.What.TheVariants.{Vertices, Faces}
 use Rattle.mesh_data.specs.declared.items.MeshWhy.{MeshWhy}
-use Rattle.mesh_data.specs.declared.items.MeshWhy.TheVariants.{Head, Words, Number, NotInteger, OutOfRange, NotTriangle, BadIndex, Repeated, Cut}
+use Rattle.mesh_data.specs.declared.items.MeshWhy.TheVariants.{Head, Words, Number, NotInteger, OutOfRange, NotTriangle}
 use Rattle.mesh_data.specs.declared.items.MeshFault.{MeshFault}
-use Rattle.mesh_data.specs.declared.items.MeshFault.TheVariants.{Read, Text, TooMany, Memory}
+use Rattle.mesh_data.specs.declared.items.MeshFault.TheVariants.{Text, TooMany}
 use Rattle.mesh_data.specs.Reading.{Reading, behind, fault_alone, nothing_more, most_items}
 use Rattle.oemm_lines.specs.declared.parts.Word.{Word}
 use Rattle.oemm_lines.specs.declared.parts.Line.{Line}
-use Rattle.oemm_lines.specs.declared.parts.LineFault.{LineFault}
-use Rattle.oemm_lines.specs.declared.parts.LineFault.TheVariants as line
 use Rattle.oemm_lines.specs.Numbers.{whole_of}
-use Rattle.oemm_lines.specs.Stream.{Flow, word_in, IsWordIn, told_lines}
+use Rattle.oemm_lines.specs.Stream.{Flow, texts_of, told_lines}
+use Rattle.mesh_reading.specs.Results.{◌>>=◌}
+use Rattle.mesh_reading.specs.Faults.{most_mesh_bytes, end_fault}
+use Rattle.mesh_reading.specs.Faces.{name_of, triangle_of}
 use Rattle.off_reader.specs.Numbers.{signed_of, coordinate_in, is_decimal}
-
--- the greatest number of bytes of a mesh that are looked at, and the number of bytes from which on a line is too long
-abbrev pub most_mesh_bytes : ℕ
-most_mesh_bytes = 8589934592
-
-abbrev pub too_many_line_bytes : ℕ
-too_many_line_bytes = 65537
-
-infixl 10 ◌>>=◌
--- goes on with what was read, and stops at a fault
-abbrev pub ◌>>=◌ : {A B : Type 0} → Result A MeshFault → (A → Result B MeshFault) → Result B MeshFault
-(Ok x) >>= f = f x
-(Err e) >>= f = Err e
-
--- a fault of the text, and not of its source or of memory
-abbrev pub IsOfText : MeshFault → Type 0
-IsOfText (Text at why) = ⊤
-IsOfText (TooMany what count) = ⊤
-IsOfText Read = ⊥
-IsOfText Memory = ⊥
-
--- the words of a line
-abbrev pub texts : Line → List (List ℕ)
-texts l = map (word_in l.bytes) l.words
-
--- the words stand in the line
-abbrev pub IsPlaced : Line → Type 0
-IsPlaced l = All (IsWordIn l.bytes) l.words
 
 -- the word at this place of a line as it is read; a line in which none stands there has too few
 unfoldable pub word_as : {A : Type 0} → (List ℕ → Result A MeshFault) → ℕ → Line → Result A MeshFault
-word_as read place l = ok_or (slice_get (texts l) place) (Text l.at Words) >>= read
+word_as read place l = ok_or (slice_get (texts_of l) place) (Text l.at Words) >>= read
 
 -- a number that is to keep the limits of a count
 abbrev pub limited : ℕ → What → ℕ → Result ℕ MeshFault
@@ -100,24 +73,11 @@ corners_of at face word = do
   n ← ok_or (whole_of word) (Text at Number)
   if n == 3 then Ok 3 else Err (Text at (NotTriangle face))
 
--- the name that an index means among so many vertices, if it is in range
-abbrev pub name_of : ℕ → ℤ → Option ℕ
-name_of vertices (pos n) = if nat_lt n vertices then Some n else None
-name_of vertices (negsuc n) = None
-
 -- what the index means that a word writes with an optional sign and digits
 unfoldable pub index_of : ℕ → ℕ → List ℕ → Result (Option ℕ) MeshFault
 index_of at vertices word = do
   n ← ok_or (signed_of word) (Text at Number)
   Ok (name_of vertices n)
-
--- the triangle that this face's three indices mean
-unfoldable pub triangle_of : ℕ → ℕ → Option ℕ → Option ℕ → Option ℕ → Result Tri MeshFault
-triangle_of at face i j k = do
-  a ← ok_or i (Text at (BadIndex face))
-  b ← ok_or j (Text at (BadIndex face))
-  c ← ok_or k (Text at (BadIndex face))
-  if a == b || b == c || c == a then Err (Text at (Repeated face)) else Ok (record { a = a; b = b; c = c })
 
 -- the triangle of this face among so many vertices; further words aren't looked at
 unfoldable pub face_of : ℕ → ℕ → Line → Result Tri MeshFault
@@ -174,15 +134,7 @@ from_head l end ls = if nat_lt 1 (length l.words) then counted (counts_of 1 l) e
 -- a mesh from its first line with words on
 unfoldable pub mesh_of : MeshFault → List Line → Reading
 mesh_of end [] = fault_alone end
-mesh_of end (l ∷ ls) = if is_head (slice_get (texts l) 0) then from_head l end ls else fault_alone (Text l.at Head)
-
--- the fault that stands behind the lines of a source of so many bytes
-abbrev pub end_fault : ℕ → Option LineFault → MeshFault
-end_fault size None = Text size Cut
-end_fault size (Some line.Read) = Read
-end_fault size (Some (line.TooLong at)) = TooMany LineBytes too_many_line_bytes
-end_fault size (Some (line.Bytes taken)) = TooMany MeshBytes most_mesh_bytes
-end_fault size (Some line.Memory) = Memory
+mesh_of end (l ∷ ls) = if is_head (slice_get (texts_of l) 0) then from_head l end ls else fault_alone (Text l.at Head)
 
 -- whether there is a word
 abbrev pub has_any : List Word → Bool

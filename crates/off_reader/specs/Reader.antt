@@ -1,29 +1,17 @@
 -- How far a mesh was read, what was given up to there, and what is left.
-use Rattle.std.specs.Prelude.{◌≡◌, ℕ, ◌+◌, ◌-◌, ◌≤◌, ◌<◌, min, true, [], ◌∷◌, if◌then◌else◌, Option, Some, None, Result, Ok, Err}
+use Rattle.std.specs.Prelude.{◌≡◌, ℕ, ◌+◌, ◌≤◌, [], ◌∷◌, if◌then◌else◌, Option, Some, None, Result, Ok, Err}
 use Rattle.std.specs.Option.{option_map}
 use Rattle.fault_counts.specs.Told.{Told}
 use Rattle.mesh_data.specs.declared.items.Item.{Item}
-use Rattle.mesh_data.specs.declared.items.Item.TheVariants.{Counts, Vertex, Face}
+use Rattle.mesh_data.specs.declared.items.Item.TheVariants.{Counts}
 use Rattle.mesh_data.specs.declared.items.MeshFault.{MeshFault}
-use Rattle.mesh_data.specs.Reading.{Reading, Given, Gives, IsComplete, behind, fault_alone, nothing_more, most_items}
-use Rattle.mesh_data.specs.Triangles.{IsProper, IsBelow}
+use Rattle.mesh_data.specs.Reading.{Reading, Given, Gives, IsComplete, behind, fault_alone, nothing_more}
 use Rattle.oemm_lines.specs.declared.parts.Line.{Line}
 use Rattle.oemm_lines.specs.Stream.{Flow, Stream, end_of, flow_left}
+use Rattle.mesh_reading.specs.Results.{IsOfText}
+use Rattle.mesh_reading.specs.Progress.{AreLimited, given_by}
 use Rattle.off_reader.specs.declared.progress.Progress.{Progress}
-use Rattle.off_reader.specs.Grammar.{Filled, IsOfText, body_of, filled, from_counts, has_words, mesh_reading, most_mesh_bytes}
-
--- the lines of a source before the first of them was asked for, with comments and the limit of a mesh
-abbrev pub new_lines : {S : Type 0} → S → Stream S
-new_lines source =
-    record {
-      source = source;
-      ahead = [];
-      at = 0;
-      number = 1;
-      budget = most_mesh_bytes;
-      comments = true;
-      fault = None;
-    }
+use Rattle.off_reader.specs.Grammar.{Filled, body_of, filled, from_counts, has_words, mesh_reading}
 
 -- the lines with words that a stream has left, in a source of so many bytes, where both are told
 abbrev pub filled_by : Option ℕ → Option Flow → Option Filled
@@ -68,16 +56,6 @@ counts_before counts f = behind (Counts counts.0 counts.1) (body_at counts.0 cou
 abbrev pub item_before : ℕ → ℕ → ℕ → Item → Filled → Reading
 item_before vertices faces done item f = behind item (body_at vertices faces (done + 1) f)
 
--- the counts keep their limits
-abbrev pub AreLimited : ℕ → ℕ → Type 0
-AreLimited vertices faces = (vertices ≤ most_items) × (faces ≤ most_items)
-
--- an item may stand behind so many vertices and faces
-abbrev pub MayFollow : ℕ → ℕ → Item → Type 0
-MayFollow vertices done (Counts v f) = ⊥
-MayFollow vertices done (Vertex p) = done < vertices
-MayFollow vertices done (Face t) = (vertices ≤ done) × IsProper t × IsBelow vertices t
-
 -- the reading of what is left, by the counts once they were read
 abbrev pub rest_by : Option (ℕ × ℕ) → ℕ → Filled → Reading
 rest_by None done f = mesh_reading f
@@ -86,12 +64,7 @@ rest_by (Some counts) done f = body_at counts.0 counts.1 done f
 abbrev pub rest_of : Progress → Filled → Reading
 rest_of p f = rest_by p.counts p.done f
 
--- what was given, by the counts once they were read
-abbrev pub given_by : Option (ℕ × ℕ) → ℕ → Option MeshFault → Given
-given_by None done fault = record { counts = None; vertices = 0; faces = 0; fault = fault }
-given_by (Some counts) done fault =
-    record { counts = Some counts; vertices = min done counts.0; faces = done - counts.0; fault = fault }
-
+-- what was given
 abbrev pub given_of : Progress → Option MeshFault → Given
 given_of p fault = given_by p.counts p.done fault
 

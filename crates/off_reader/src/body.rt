@@ -4,7 +4,8 @@ ghost use Rattle.std.specs.Prelude.{◌≡◌, ◌+◌, ◌≤◌, ◌<◌, None
 ghost use Rattle.std.specs.Option.{option_map};
 ghost use Rattle.fault_counts.specs.Counts.{Rose};
 ghost use Rattle.mesh_data.specs.Reading.{fault_alone};
-ghost use Rattle.off_reader.specs.Reader.{filled_left, body_at, item_before, MayFollow, Pops};
+ghost use Rattle.mesh_reading.specs.Progress.{MayFollow};
+ghost use Rattle.off_reader.specs.Reader.{filled_left, body_at, item_before, Pops};
 
 use super::filled::next_filled;
 use super::line::item_of;

@@ -2,11 +2,12 @@
 
 ghost use Rattle.std.specs.Prelude.{◌≡◌, ◌≤◌, ◌<◌, None, IfOk, OnOk, IsErrOf};
 ghost use Rattle.fault_counts.specs.Counts.{Rose};
-ghost use Rattle.off_reader.specs.Grammar.{has_words, IsPlaced};
+ghost use Rattle.oemm_lines.specs.Stream.{IsPlaced};
+ghost use Rattle.off_reader.specs.Grammar.{has_words};
 ghost use Rattle.off_reader.specs.Reader.{filled_left, led_by, with_line, ended_by, Pops};
 
-use super::faults::{fault_at, fault_of_lines};
 use mesh_data::{MeshFault, MeshWhy};
+use mesh_reading::{fault_at, fault_of_lines};
 use oemm_io::Source;
 use oemm_lines::{Line, Lines};
 

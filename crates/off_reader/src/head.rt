@@ -4,13 +4,14 @@ ghost use Rattle.std.specs.Prelude.{◌≡◌, ◌≤◌, None, IfOk, OnOk, IsEr
 ghost use Rattle.std.specs.Option.{option_map};
 ghost use Rattle.fault_counts.specs.Counts.{Rose};
 ghost use Rattle.mesh_data.specs.Reading.{fault_alone};
+ghost use Rattle.mesh_reading.specs.Progress.{AreLimited};
 ghost use Rattle.off_reader.specs.Grammar.{mesh_reading};
-ghost use Rattle.off_reader.specs.Reader.{filled_left, counts_at, counts_before, AreLimited, Pops};
+ghost use Rattle.off_reader.specs.Reader.{filled_left, counts_at, counts_before, Pops};
 
-use super::faults::fault_at;
 use super::filled::next_filled;
 use super::line::{counts_of, is_head};
 use mesh_data::{MeshFault, MeshWhy};
+use mesh_reading::fault_at;
 use oemm_io::Source;
 use oemm_lines::Lines;
 

@@ -3,9 +3,9 @@
 #![tactic(auto)]
 
 mod body;
-mod faults;
 mod filled;
 mod head;
+mod laws;
 mod line;
 mod numbers;
 mod progress;
@@ -14,4 +14,5 @@ mod reader;
 mod tests;
 mod values;
 
+pub use laws::{mesh_fault_laws, mesh_laws};
 pub use reader::OffReader;

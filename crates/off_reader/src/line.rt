@@ -4,36 +4,31 @@ ghost use Rattle.std.specs.Prelude.{◌≡◌, ◌+◌, ◌≤◌, ◌<◌, slic
 ghost use Rattle.mesh_data.specs.Reading.{most_items};
 ghost use Rattle.mesh_data.specs.Triangles.{IsProper, IsBelow};
 ghost use Rattle.off_reader.specs.Grammar as grammar;
-ghost use Rattle.off_reader.specs.Grammar.{texts, word_as, IsOfText, IsPlaced};
-ghost use Rattle.off_reader.specs.Reader.{AreLimited, MayFollow};
+ghost use Rattle.off_reader.specs.Grammar.{word_as};
+ghost use Rattle.oemm_lines.specs.Stream.{texts_of, IsPlaced};
+ghost use Rattle.mesh_reading.specs.Results.{IsOfText};
+ghost use Rattle.mesh_reading.specs.Progress.{AreLimited, MayFollow};
 
-use super::faults::fault_at;
 use super::values::{coordinate_of, corners_of, count_of, index_of};
-use mesh_data::{Item, MeshFault, MeshWhy, Name, Point, Tri, What};
+use mesh_data::{Item, MeshFault, MeshWhy, Point, Tri, What};
+use mesh_reading::{fault_at, triangle_of};
 use oemm_lines::Line;
 
 /// The word at this place of a line.
 fn word_at(line: &Line, place: usize) -> Result<&[u8], MeshFault>
     requires { IsPlaced line.now }
-    ensures { MatchResult result (λ word. slice_get (texts line.now) place ≡ Some word.now)
-        (λ fault. (slice_get (texts line.now) place ≡ None) × (fault ≡ MeshFault.Text line.now.at MeshWhy.Words)) }
+    ensures { MatchResult result (λ word. slice_get (texts_of line.now) place ≡ Some word.now)
+        (λ fault. (slice_get (texts_of line.now) place ≡ None) × (fault ≡ MeshFault.Text line.now.at MeshWhy.Words)) }
 {
-    if place >= line.words.len() {
-        return Err(fault_at(line.at, MeshWhy::Words));
-    }
-    let word = line.words.at(place);
-    Ok(&line.bytes.slice()[word.from as usize..word.to as usize])
+    line.word(place).ok_or(fault_at(line.at, MeshWhy::Words))
 }
 
 /// Whether the first word of a line is `OFF`.
 pub fn is_head(line: &Line) -> bool
     requires { IsPlaced line.now }
-    ensures { result ≡ grammar.is_head (slice_get (texts line.now) 0) }
+    ensures { result ≡ grammar.is_head (slice_get (texts_of line.now) 0) }
 {
-    match word_at(line, 0) {
-        Ok(word) => word == b"OFF".as_slice(),
-        Err(_) => false,
-    }
+    line.word(0) == Some(b"OFF".as_slice())
 }
 
 /// The count at this place of a line.
@@ -103,33 +98,6 @@ fn index_at(line: &Line, place: usize, vertices: u32) -> Result<Option<u32>, Mes
     ensures below { IfOk result (λ name. IfSome name (λ n. n < vertices)) }
 {
     index_of(word_at(line, place)?, line.at, vertices)
-}
-
-/// The triangle that this face's three indices mean.
-#[tactic(auto, unfolding(crate::specs::Grammar::triangle_of))]
-fn triangle_of(
-    at: u64,
-    face: u32,
-    i: Option<u32>,
-    j: Option<u32>,
-    k: Option<u32>,
-) -> Result<Tri, MeshFault>
-    ensures exact { result ≡ grammar.triangle_of at face i j k }
-    ensures fault { IfErr result IsOfText }
-    ensures proper { IfOk result IsProper }
-    ensures names { IfOk result (λ t. (i ≡ Some t.a) × (j ≡ Some t.b) × (k ≡ Some t.c)) }
-{
-    let (Some(a), Some(b), Some(c)) = (i, j, k) else {
-        return Err(fault_at(at, MeshWhy::BadIndex { face }));
-    };
-    if a == b || b == c || c == a {
-        return Err(fault_at(at, MeshWhy::Repeated { face }));
-    }
-    Ok(Tri {
-        a: Name(a),
-        b: Name(b),
-        c: Name(c),
-    })
 }
 
 /// The triangle of this face among so many vertices.

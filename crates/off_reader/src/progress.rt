@@ -1,10 +1,10 @@
 //! How far a mesh was read.
 
-ghost use Rattle.std.specs.Prelude.{◌≡◌, ◌≤◌, None, IfOk, IfNone, OnOk, IsErrOf};
+ghost use Rattle.std.specs.Prelude.{◌≡◌, ◌≤◌, None, Ok, IfOk, OnOk, IsErrOf};
 ghost use Rattle.std.specs.Option.{option_map};
 ghost use Rattle.fault_counts.specs.Counts.{Rose};
-ghost use Rattle.mesh_data.specs.Reading.{fault_alone};
-ghost use Rattle.off_reader.specs.Reader.{filled_left, rest_of, stepped_reading, GivesNext, IsCounted, Pops};
+ghost use Rattle.mesh_data.specs.Reading.{fault_alone, IsComplete};
+ghost use Rattle.off_reader.specs.Reader.{filled_left, given_of, rest_of, stepped_reading, GivesNext, IsCounted, Pops};
 
 use super::body::next_item;
 use super::head::begin;
@@ -22,7 +22,7 @@ pub struct Progress {
 }
 
 /// The next item and how far the mesh was read with it, or None behind the last face.
-#[tactic(auto, using(crate::proofs::ItemSteps::given_more, crate::proofs::ItemSteps::given_all, crate::proofs::ItemSteps::rest_done))]
+#[tactic(auto, using(crate::proofs::ItemSteps::given_more, crate::proofs::ItemSteps::given_all, crate::proofs::ItemSteps::rest_done, crate::proofs::ItemSteps::complete_done))]
 pub fn step<S: Source>(
     lines: &mut Lines<S>,
     p: Progress,
@@ -31,7 +31,7 @@ pub fn step<S: Source>(
     requires counted { IsCounted p.counts p.done }
     ensures told { Pops stepped_reading fault_alone (option_map (rest_of p) (filled_left S.left lines.old)) result (filled_left S.left lines.new) }
     ensures given { IfOk result (GivesNext p) }
-    ensures stays { IfOk result (λ r. IfNone r (lines.new ≡ lines.old)) }
+    ensures complete { IsComplete (given_of p None) → (result ≡ Ok None) × (lines.new ≡ lines.old) }
     ensures calm { OnOk result (lines.new.fault ≡ None) }
     ensures kept { S.faults lines.old.source ≤ S.faults lines.new.source }
     ensures read { IsErrOf result MeshFault.Read → Rose (S.faults lines.old.source) (S.faults lines.new.source) }

@@ -44,15 +44,17 @@ impl<S> OffReader<S> {
 }
 
 impl<S: Source> OffReader<S> {
-    ghost use Rattle.std.specs.Prelude.{◌≡◌};
+    ghost use Rattle.std.specs.Prelude.{◌≡◌, true};
     ghost use Rattle.std.specs.Option.{option_map};
     ghost use Rattle.mesh_data.specs.Reading.{nothing_given};
     ghost use Rattle.off_reader.specs.Grammar.{off_reading};
-    ghost use Rattle.off_reader.specs.Reader.{given_of, new_lines, reading_left};
+    ghost use Rattle.oemm_lines.specs.Stream.{fresh_stream};
+    ghost use Rattle.mesh_reading.specs.Faults.{most_mesh_bytes};
+    ghost use Rattle.off_reader.specs.Reader.{given_of, reading_left};
 
     /// A reader of the mesh on these lines, of which none was asked for. They have comments, and a budget of 2^33 bytes.
     pub fn new(lines: Lines<S>) -> OffReader<S>
-        requires { lines ≡ new_lines lines.source }
+        requires { lines ≡ fresh_stream most_mesh_bytes true lines.source }
         ensures source { result.lines.source ≡ lines.source }
         ensures given { given_of result.progress result.fault ≡ nothing_given }
         ensures reading { reading_left S.left result ≡ option_map off_reading (S.left lines.source) }
@@ -69,9 +71,9 @@ impl<S: Source> OffReader<S> {
 }
 
 impl<S: Source> Items for OffReader<S> {
-    ghost use Rattle.std.specs.Prelude.{◌≡◌, ◌≤◌, ◌⊎◌, None, Some, Err, IfOk, IfNone, IfSome};
+    ghost use Rattle.std.specs.Prelude.{◌≡◌, ◌≤◌, ◌⊎◌, None, Some, Ok, Err, IfSome};
     ghost use Rattle.fault_counts.specs.Counts.{Rose};
-    ghost use Rattle.mesh_data.specs.Reading.{Steps, Reads};
+    ghost use Rattle.mesh_data.specs.Reading.{IsComplete, Steps, Reads};
     ghost use Rattle.off_reader.specs.Reader.{given_of, reading_left};
 
     ghost given = { λ r. given_of r.progress r.fault };
@@ -90,7 +92,7 @@ impl<S: Source> Items for OffReader<S> {
         ensures told { Reads (reading_left S.left self.old) result (reading_left S.left self.new) }
         ensures kept { S.faults self.old.lines.source ≤ S.faults self.new.lines.source }
         ensures read { result ≡ Err MeshFault.Read → ((given_of self.old.progress self.old.fault).fault ≡ Some MeshFault.Read) ⊎ Rose (S.faults self.old.lines.source) (S.faults self.new.lines.source) }
-        ensures end { IfOk result (λ item. IfNone item (self.new ≡ self.old)) }
+        ensures complete { self.old.fault ≡ None → IsComplete (given_of self.old.progress self.old.fault) → (result ≡ Ok None) × (self.new ≡ self.old) }
         ensures again { IfSome self.old.fault (λ fault. (result ≡ Err fault) × (self.new ≡ self.old)) }
     {
         if let Some(fault) = self.fault {

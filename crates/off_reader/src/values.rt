@@ -3,15 +3,12 @@
 ghost use Rattle.std.specs.Prelude.{◌≡◌, ◌≤◌, ◌<◌, IfErr, IfOk, IfSome};
 ghost use Rattle.mesh_data.specs.Reading.{most_items};
 ghost use Rattle.off_reader.specs.Grammar as grammar;
-ghost use Rattle.off_reader.specs.Grammar.{IsOfText, name_of};
+ghost use Rattle.mesh_reading.specs.Results.{IsOfText};
 
-use super::faults::fault_at;
 use super::numbers::{coordinate, is_decimal, signed};
 use mesh_data::{MeshFault, MeshWhy, What};
+use mesh_reading::{MOST_ITEMS, fault_at, name_of};
 use oemm_lines::whole;
-
-/// The greatest count of vertices and of faces.
-const MOST_ITEMS: u64 = 1 << 24;
 
 /// A number that keeps the limits of a count.
 fn limited(n: u128, at: u64, what: What) -> Result<u32, MeshFault>
@@ -77,14 +74,6 @@ pub fn corners_of(word: &[u8], at: u64, face: u32) -> Result<u32, MeshFault>
         Some(_) => Err(fault_at(at, MeshWhy::NotTriangle { face })),
         None => Err(fault_at(at, MeshWhy::Number)),
     }
-}
-
-/// The name that an index means among so many vertices, if it is in range.
-fn name_of(n: i64, vertices: u32) -> Option<u32>
-    ensures { result ≡ name_of vertices n }
-{
-    let n = u32::try_from(n).ok()?;
-    (n < vertices).then_some(n)
 }
 
 /// What the index means that a word writes with an optional sign and digits.

@@ -7,16 +7,17 @@ use Rattle.std.proofs.lemmas.Bool.Decides.{nat_tests}
 use Rattle.fault_counts.specs.Told.{Told}
 use Rattle.mesh_data.specs.declared.items.MeshFault.{MeshFault}
 use Rattle.oemm_lines.specs.Stream.{left_of}
-use Rattle.ply_reader.specs.declared.layout.Order.{Order}
-use Rattle.ply_reader.specs.declared.layout.Number.{Number}
+use Rattle.mesh_reading.specs.Results.{◌>>=◌}
+use Rattle.mesh_reading.specs.Faults.{most_mesh_bytes}
+use Rattle.ply_reader.specs.declared.layout.ByteOrder.{ByteOrder}
+use Rattle.ply_reader.specs.declared.layout.ScalarType.{ScalarType}
 use Rattle.ply_reader.specs.declared.layout.Property.{Property}
 use Rattle.ply_reader.specs.declared.layout.Property.TheVariants.{Coordinate, Corners, Single, Many}
 use Rattle.ply_reader.specs.declared.layout.Element.{Element}
 use Rattle.ply_reader.specs.declared.values.Values.{Values}
 use Rattle.ply_reader.specs.declared.values.Record.{Record}
-use Rattle.ply_reader.specs.Results.{◌>>=◌}
 use Rattle.ply_reader.specs.Layout.{size_of}
-use Rattle.ply_reader.specs.Body.{Rest, forward, passed, most_mesh_bytes, no_values, property_in, properties_in, foreign_record, record_passed, records_passed, elements_passed}
+use Rattle.ply_reader.specs.Body.{Rest, forward, passed, no_values, property_in, properties_in, foreign_record, record_passed, records_passed, elements_passed}
 use Rattle.ply_reader.specs.Feed.{Feed, rest_with, rest_left, found, Fails, IsOpen, fixed_from}
 use Rattle.ply_reader.proofs.FeedLaws.{passed-more, passed-split, passed-none, chosen, passed-chosen}
 use Rattle.ply_reader.proofs.StepLaws.{behind_then, passes_then, fails_behind, some_is}
@@ -25,7 +26,7 @@ pub from_place : {A : Type 0} (xs : List A) (i : ℕ) (d : A) → i < length xs 
 from_place xs i d below = drop-cons xs i d below ∙ ap (λ n. get_or xs i d ∷ drop n xs) (sym (add-one i))
 
 -- the size of properties, one behind another
-pub fixed_next : (ps : List Property) (i n : ℕ) (d : Property) (number : Number) → i < length ps → get_or ps i d ≡ Single number → fixed_from (n + size_of number) (drop (i + 1) ps) ≡ fixed_from n (drop i ps)
+pub fixed_next : (ps : List Property) (i n : ℕ) (d : Property) (number : ScalarType) → i < length ps → get_or ps i d ≡ Single number → fixed_from (n + size_of number) (drop (i + 1) ps) ≡ fixed_from n (drop i ps)
 unfolding fixed_from
 fixed_next ps i n d number below is =
     sym (ap (fixed_from n) (from_place ps i d below ∙ ap (λ p. p ∷ drop (i + 1) ps) is))
@@ -36,7 +37,7 @@ fixed_done ps i n all = ap (fixed_from n) (drop_all i ps all)
 
 -- records, one behind another
 pub records_next :
-    (o : Order) (ps : List Property) (n m : ℕ) (old mid : Option Rest) → n ≡ m + 1 → option_map (record_passed o ps) old ≡ option_map Ok mid →
+    (o : ByteOrder) (ps : List Property) (n m : ℕ) (old mid : Option Rest) → n ≡ m + 1 → option_map (record_passed o ps) old ≡ option_map Ok mid →
     option_map (records_passed o ps m) mid ≡ option_map (records_passed o ps n) old
 unfolding records_passed
 records_next o ps n m old mid more passes =
@@ -44,23 +45,23 @@ records_next o ps n m old mid more passes =
     ∙ ap (λ k. option_map (records_passed o ps k) old) (sym (more ∙ add-one m))
 
 pub records_stop :
-    (o : Order) (ps : List Property) (n m : ℕ) (old new : Option Rest) (fault : MeshFault) → n ≡ m + 1 → Fails (record_passed o ps) old fault new →
+    (o : ByteOrder) (ps : List Property) (n m : ℕ) (old new : Option Rest) (fault : MeshFault) → n ≡ m + 1 → Fails (record_passed o ps) old fault new →
     Fails (records_passed o ps n) old fault new
 unfolding records_passed
 records_stop o ps n m old new fault more fails =
     rw (more ∙ add-one m) (fails_behind (record_passed o ps) (records_passed o ps m) old new fault fails)
 
-pub records_done : (o : Order) (ps : List Property) (n : ℕ) (old : Option Rest) → n ≡ 0 → option_map (records_passed o ps n) old ≡ option_map Ok old
+pub records_done : (o : ByteOrder) (ps : List Property) (n : ℕ) (old : Option Rest) → n ≡ 0 → option_map (records_passed o ps n) old ≡ option_map Ok old
 unfolding records_passed
 records_done o ps n old none = ap (λ k. option_map (records_passed o ps k) old) none
 
 -- elements, one behind another
-elements_cons : (o : Order) (e : Element) (es : List Element) (old : Option Rest) → option_map (behind_then (records_passed o e.properties e.count) (elements_passed o es)) old ≡ option_map (elements_passed o (e ∷ es)) old
+elements_cons : (o : ByteOrder) (e : Element) (es : List Element) (old : Option Rest) → option_map (behind_then (records_passed o e.properties e.count) (elements_passed o es)) old ≡ option_map (elements_passed o (e ∷ es)) old
 unfolding elements_passed
 elements_cons o e es old = refl
 
 pub elements_next :
-    (o : Order) (es : List Element) (i : ℕ) (d : Element) (old mid : Option Rest) → i < length es →
+    (o : ByteOrder) (es : List Element) (i : ℕ) (d : Element) (old mid : Option Rest) → i < length es →
     option_map (records_passed o (get_or es i d).properties (get_or es i d).count) old ≡ option_map Ok mid →
     option_map (elements_passed o (drop (i + 1) es)) mid ≡ option_map (elements_passed o (drop i es)) old
 elements_next o es i d old mid below passes =
@@ -68,19 +69,19 @@ elements_next o es i d old mid below passes =
     ∙ elements_cons o (get_or es i d) (drop (i + 1) es) old
     ∙ ap (λ fs. option_map (elements_passed o fs) old) (sym (from_place es i d below))
 
-elements_fail : (o : Order) (e : Element) (es : List Element) (old new : Option Rest) (fault : MeshFault) → Fails (behind_then (records_passed o e.properties e.count) (elements_passed o es)) old fault new → Fails (elements_passed o (e ∷ es)) old fault new
+elements_fail : (o : ByteOrder) (e : Element) (es : List Element) (old new : Option Rest) (fault : MeshFault) → Fails (behind_then (records_passed o e.properties e.count) (elements_passed o es)) old fault new → Fails (elements_passed o (e ∷ es)) old fault new
 unfolding elements_passed
 elements_fail o e es old new fault fails = fails
 
 pub elements_stop :
-    (o : Order) (es : List Element) (i : ℕ) (d : Element) (old new : Option Rest) (fault : MeshFault) → i < length es →
+    (o : ByteOrder) (es : List Element) (i : ℕ) (d : Element) (old new : Option Rest) (fault : MeshFault) → i < length es →
     Fails (records_passed o (get_or es i d).properties (get_or es i d).count) old fault new →
     Fails (elements_passed o (drop i es)) old fault new
 elements_stop o es i d old new fault below fails =
     rw (from_place es i d below)
     (elements_fail o (get_or es i d) (drop (i + 1) es) old new fault (fails_behind (records_passed o (get_or es i d).properties (get_or es i d).count) (elements_passed o (drop (i + 1) es)) old new fault fails))
 
-pub elements_done : (o : Order) (es : List Element) (i : ℕ) (old : Option Rest) → length es ≤ i → option_map (elements_passed o (drop i es)) old ≡ option_map Ok old
+pub elements_done : (o : ByteOrder) (es : List Element) (i : ℕ) (old : Option Rest) → length es ≤ i → option_map (elements_passed o (drop i es)) old ≡ option_map Ok old
 unfolding elements_passed
 elements_done o es i old all = ap (λ fs. option_map (elements_passed o fs) old) (drop_all i es all)
 
@@ -157,7 +158,7 @@ records_step size total r next (Ok s) is fits same =
     let limit = done.limit in
     same s (omega (arith, at, limit)) ∙ ap (passed (total - size)) done.is ∙ passed-split size total r fits done.there
 
-records_fixed : (o : Order) (ps : List Property) (size n : ℕ) (r : Rest) → IsFixed ps 0 size → r.at ≤ most_mesh_bytes → records_passed o ps n r ≡ passed (n * size) r
+records_fixed : (o : ByteOrder) (ps : List Property) (size n : ℕ) (r : Rest) → IsFixed ps 0 size → r.at ≤ most_mesh_bytes → records_passed o ps n r ≡ passed (n * size) r
 unfolding records_passed record_passed
 records_fixed o ps size zero r fixed limit = sym (passed-none r limit) ∙ ap (λ n. passed n r) (let e : 0 ≡ 0 * size = omega arith in e)
 records_fixed o ps size (suc n) r fixed limit =
@@ -166,9 +167,12 @@ records_fixed o ps size (suc n) r fixed limit =
     ∙ records_step size (suc n * size) r (records_passed o ps n) (passed size r) refl (omega (arith, total))
     (λ s there. records_fixed o ps size n s fixed there ∙ ap (λ m. passed m s) (let e : n * size ≡ suc n * size - size = omega (arith, total) in e))
 
-fixed_over : (o : Order) (ps : List Property) (size n at : ℕ) (ahead : List ℕ) (left : Told) → IsFixed ps 0 size → at ≤ most_mesh_bytes → option_map (passed (n * size)) (option_map (rest_with (at - length ahead) ahead) left) ≡ option_map (records_passed o ps n) (option_map (rest_with (at - length ahead) ahead) left)
+pub fixed_records : (o : ByteOrder) (ps : List Property) (size n : ℕ) (r : Rest) → fixed_from 0 ps ≡ Some size → r.at ≤ most_mesh_bytes → records_passed o ps n r ≡ passed (n * size) r
+fixed_records o ps size n r is limit = records_fixed o ps size n r (fixed_is ps 0 size is) limit
+
+fixed_over : (o : ByteOrder) (ps : List Property) (size n at : ℕ) (ahead : List ℕ) (left : Told) → IsFixed ps 0 size → at ≤ most_mesh_bytes → option_map (passed (n * size)) (option_map (rest_with (at - length ahead) ahead) left) ≡ option_map (records_passed o ps n) (option_map (rest_with (at - length ahead) ahead) left)
 fixed_over o ps size n at ahead None fixed limit = refl
 fixed_over o ps size n at ahead (Some rest) fixed limit = ap Some (sym (records_fixed o ps size n (rest_with (at - length ahead) ahead rest) fixed (omega arith)))
 
-pub fixed_passes : {S : Type 0} (told : S → Told) (f : Feed S) (o : Order) (ps : List Property) (size n : ℕ) → fixed_from 0 ps ≡ Some size → IsOpen f → option_map (passed (n * size)) (rest_left told f) ≡ option_map (records_passed o ps n) (rest_left told f)
+pub fixed_passes : {S : Type 0} (told : S → Told) (f : Feed S) (o : ByteOrder) (ps : List Property) (size n : ℕ) → fixed_from 0 ps ≡ Some size → IsOpen f → option_map (passed (n * size)) (rest_left told f) ≡ option_map (records_passed o ps n) (rest_left told f)
 fixed_passes told f o ps size n is open_still = fixed_over o ps size n f.stream.at f.ahead (left_of told f.stream) (fixed_is ps 0 size is) open_still.1

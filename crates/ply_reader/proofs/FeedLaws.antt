@@ -1,5 +1,5 @@
 -- How a feed goes on.
-use Rattle.std.proofs.Common.{◌≡◌, ℕ, ◌+◌, ◌-◌, ◌<◌, ◌≤◌, Bool, nat_lt, min, List, [], ◌∷◌, ◌++◌, length, drop, Option, Some, None, IfSome, Result, Ok, Err, if◌then◌else◌, refl, ap, sym, ◌∙◌, append_assoc, append-nil, arith, length-append, length-drop}
+use Rattle.std.proofs.Common.{◌≡◌, ℕ, ◌+◌, ◌-◌, ◌<◌, ◌≤◌, Bool, true, false, ◌&&◌, nat_lt, min, List, [], ◌∷◌, ◌++◌, length, drop, Option, Some, None, IfSome, Result, Ok, Err, if◌then◌else◌, refl, ap, sym, ◌∙◌, append_assoc, append-nil, arith, length-append, length-drop}
 use Rattle.std.specs.Option.{option_map}
 use Rattle.std.proofs.lemmas.List.{drop-append-le, drop-drop}
 use Rattle.std.proofs.lemmas.Bool.Decides.{nat_tests}
@@ -11,10 +11,12 @@ use Rattle.mesh_data.specs.declared.items.What.TheVariants.{MeshBytes}
 use Rattle.oemm_lines.specs.declared.parts.LineFault.{LineFault}
 use Rattle.oemm_lines.specs.declared.parts.LineFault.TheVariants.{Bytes}
 use Rattle.oemm_lines.specs.declared.parts.LineFault.TheVariants as line
-use Rattle.oemm_lines.specs.Stream.{Stream, Flow, left_of, GivesNext, Says, flow_of, flow_left, flow_by, fault_alone, nothing_more, told_lines}
+use Rattle.oemm_lines.specs.declared.parts.Line.{Line}
+use Rattle.oemm_lines.specs.Stream.{Stream, Flow, Body, bodies, longest, line_fault, led_by, flow_from, left_of, GivesNext, Says, StaysPut, flow_of, flow_left, flow_by, fault_alone, nothing_more, told_lines}
 use Rattle.oemm_lines.proofs.FlowLaws.{told_lines-none}
-use Rattle.ply_reader.specs.Body.{Rest, forward, passed, most_mesh_bytes}
-use Rattle.ply_reader.specs.Feed.{Feed, rest_with, rest_left, failed, FailsBeyond, fault_at_limit, IsOpen}
+use Rattle.mesh_reading.specs.Faults.{fault_of, most_mesh_bytes}
+use Rattle.ply_reader.specs.Body.{Rest, forward, passed}
+use Rattle.ply_reader.specs.Feed.{Feed, rest_with, rest_left, failed, FailsBeyond, IsOpen}
 
 -- a byte past the limit is needed
 passed-past : (n : ℕ) (r : Rest) → most_mesh_bytes < r.at + min n (length r.bytes) → passed n r ≡ Err (TooMany MeshBytes most_mesh_bytes)
@@ -40,35 +42,82 @@ past_limit n at ahead c cs within full more =
 none_is_some : {A : Type 0} {x : A} → None ≡ Some x → ⊥
 none_is_some e = cc
 
--- no byte is left where the flow is a fault, only if it is none of the bytes
-nothing_shows : {S : Type 0} (s : Stream S) (taken : ℕ) → s.fault ≡ None → flow_of s [] ≡ fault_alone (Bytes taken) → ⊥
-nothing_shows s taken calm shows =
+some_is_some : {A : Type 0} {x y : A} → Some x ≡ Some y → x ≡ y
+some_is_some e = cc
+
+none_behind : {A : Type 0} {x : A} {xs : List A} → x ∷ xs ≡ [] → ⊥
+none_behind e = cc
+
+and_false : (b : Bool) → (b && false) ≡ false
+and_false true = refl
+and_false false = refl
+
+-- a line that isn't too long can only lack bytes
+bytes_alone : (long past : Bool) (at budget : ℕ) (fault : LineFault) → long ≡ false → (if long then Some (line.TooLong at) else if past then Some (Bytes budget) else None) ≡ Some fault → fault ≡ Bytes budget
+bytes_alone true past at budget fault short is = absurd cc
+bytes_alone false true at budget fault short is = cc
+bytes_alone false false at budget fault short is = absurd cc
+
+-- where the budget is reached, no line is too long
+line_at_budget : (budget : ℕ) (b : Body) (fault : LineFault) → line_fault budget budget b ≡ Some fault → fault ≡ Bytes budget
+line_at_budget budget b fault is =
+    let short : nat_lt (budget + longest) budget ≡ false = grind (arith, nat_tests) in
+    bytes_alone _ _ budget budget fault (ap (λ t. nat_lt longest (length b.bytes) && t) short ∙ and_false _) is
+
+led_at_budget : (budget : ℕ) (l : Line) (f : Flow) (first : Option LineFault) (fault : LineFault) → ((e : LineFault) → first ≡ Some e → e ≡ Bytes budget) → led_by first l f ≡ fault_alone fault → fault ≡ Bytes budget
+led_at_budget budget l f None fault bytes is = absurd (none_behind (ap (λ (g : Flow). g.lines) is))
+led_at_budget budget l f (Some e) fault bytes is = some_is_some (ap (λ (g : Flow). g.fault) (sym is)) ∙ bytes e refl
+
+flow_at_budget : (comments : Bool) (budget number : ℕ) (bs : List Body) (fault : LineFault) → flow_from comments budget budget number bs ≡ fault_alone fault → fault ≡ Bytes budget
+unfolding flow_from
+flow_at_budget comments budget number [] fault is = absurd (none_is_some (ap (λ (f : Flow). f.fault) is))
+flow_at_budget comments budget number (b ∷ bs) fault is = led_at_budget budget _ _ (line_fault budget budget b) fault (line_at_budget budget b) is
+
+told_at_budget : (comments : Bool) (budget at number : ℕ) (bytes : List ℕ) (fault : LineFault) → at ≡ budget → told_lines comments budget at number bytes ≡ fault_alone fault → fault ≡ Bytes budget
+told_at_budget comments budget at number bytes fault full is =
+    flow_at_budget comments budget number (bodies bytes) fault (ap (λ p. told_lines comments budget p number bytes) (sym full) ∙ is)
+
+-- where the limit is reached and the lines show a fault, it is that of the bytes past the limit, and a byte is left
+stream_at_budget : {S : Type 0} (s : Stream S) (bytes : List ℕ) (fault : LineFault) → s.fault ≡ None → s.at ≡ s.budget → flow_of s bytes ≡ fault_alone fault → fault ≡ Bytes s.budget
+stream_at_budget s bytes fault calm full shows =
+    told_at_budget s.comments s.budget s.at s.number bytes fault full (ap (λ f. flow_by f (told_lines s.comments s.budget s.at s.number bytes)) (sym calm) ∙ shows)
+
+nothing_shows : {S : Type 0} (s : Stream S) (fault : LineFault) → s.fault ≡ None → flow_of s [] ≡ fault_alone fault → ⊥
+nothing_shows s fault calm shows =
     let quiet : flow_of s [] ≡ nothing_more = ap (λ f. flow_by f (told_lines s.comments s.budget s.at s.number [])) calm ∙ told_lines-none s.comments s.budget s.at s.number in
     none_is_some (ap (λ (f : Flow). f.fault) (sym quiet ∙ shows))
 
--- what can't be passed where the limit is reached and the lines show a byte
 limit_reached :
-    {S : Type 0} (s : Stream S) (n taken : ℕ) (ahead : List ℕ) (left : Told) → s.fault ≡ None → length ahead ≤ s.at → s.at ≡ most_mesh_bytes →
-    length ahead < n → IfSome (option_map (flow_of s) left) (λ f. f ≡ fault_alone (Bytes taken)) →
-    option_map (passed n) (option_map (rest_with (s.at - length ahead) ahead) left) ≡ option_map (failed (TooMany MeshBytes most_mesh_bytes)) (option_map (rest_with (s.at - length ahead) ahead) left)
-limit_reached s n taken ahead None calm within full more shows = refl
-limit_reached s n taken ahead (Some []) calm within full more shows = absurd (nothing_shows s taken calm shows)
-limit_reached s n taken ahead (Some (c ∷ cs)) calm within full more shows = ap Some (past_limit n s.at ahead c cs within full more)
+    {S : Type 0} (s : Stream S) (n : ℕ) (fault : LineFault) (ahead : List ℕ) (left : Told) → s.fault ≡ None → length ahead ≤ s.at → s.at ≡ most_mesh_bytes → s.budget ≡ most_mesh_bytes →
+    length ahead < n → IfSome (option_map (flow_of s) left) (λ f. f ≡ fault_alone fault) →
+    option_map (passed n) (option_map (rest_with (s.at - length ahead) ahead) left) ≡ option_map (failed (fault_of fault)) (option_map (rest_with (s.at - length ahead) ahead) left)
+limit_reached s n fault ahead None calm within full budget more shows = refl
+limit_reached s n fault ahead (Some []) calm within full budget more shows = absurd (nothing_shows s fault calm shows)
+limit_reached s n fault ahead (Some (c ∷ cs)) calm within full budget more shows =
+    let is : fault ≡ Bytes most_mesh_bytes = stream_at_budget s (c ∷ cs) fault calm (full ∙ sym budget) shows ∙ ap Bytes budget in
+    ap Some (past_limit n s.at ahead c cs within full more ∙ ap (λ f. Err (fault_of f)) (sym is))
+
+-- and it is as it was behind the call
+abbrev failing : MeshFault → Rest → Result Rest MeshFault
+failing fault r = Err fault
+
+kept_fault : {S : Type 0} (told : S → Told) (old new : Stream S) (ahead : List ℕ) (fault : MeshFault) → StaysPut told old new → option_map (failing fault) (rest_left told (record { stream = old; ahead = ahead })) ≡ option_map (failing fault) (rest_left told (record { stream = new; ahead = ahead }))
+kept_fault told old new ahead fault stays =
+    ap (λ at. option_map (failing fault) (option_map (rest_with (at - length ahead) ahead) (left_of told old))) (sym stays.place)
+    ∙ ap (λ left. option_map (failing fault) (option_map (rest_with (new.at - length ahead) ahead) left)) (sym stays.left)
 
 -- a fault of the line that would begin at the limit
 pub beyond_limit :
     {S : Type 0} (told : S → Told) (old new : Stream S) (ahead : List ℕ) (fault : LineFault) →
-    old.fault ≡ None → length ahead ≤ old.at → old.at ≡ most_mesh_bytes →
+    old.fault ≡ None → length ahead ≤ old.at → old.at ≡ most_mesh_bytes → old.budget ≡ most_mesh_bytes →
     GivesNext told old (Err fault) new → Says (flow_left told old) (Err fault) (flow_left told new) →
-    FailsBeyond (length ahead) (rest_left told (record { stream = old; ahead = ahead })) (fault_at_limit fault) (rest_left told (record { stream = new; ahead = ahead }))
-beyond_limit told old new ahead line.Read calm within full gives says n more = tt
-beyond_limit told old new ahead (line.TooLong at) calm within full gives says n more = tt
-beyond_limit told old new ahead line.Memory calm within full gives says n more = tt
-beyond_limit told old new ahead (line.Bytes taken) calm within full gives says n more =
-    let stays = gives.0 in
-    limit_reached old n taken ahead (left_of told old) calm within full more says.0
-    ∙ ap (λ at. option_map (failed (TooMany MeshBytes most_mesh_bytes)) (option_map (rest_with (at - length ahead) ahead) (left_of told old))) (sym stays.place)
-    ∙ ap (λ left. option_map (failed (TooMany MeshBytes most_mesh_bytes)) (option_map (rest_with (new.at - length ahead) ahead) left)) (sym stays.left)
+    FailsBeyond (length ahead) (rest_left told (record { stream = old; ahead = ahead })) (fault_of fault) (rest_left told (record { stream = new; ahead = ahead }))
+beyond_limit told old new ahead line.Read calm within full budget gives says n more = tt
+beyond_limit told old new ahead line.Memory calm within full budget gives says n more = tt
+beyond_limit told old new ahead (line.TooLong at) calm within full budget gives says n more =
+    limit_reached old n (line.TooLong at) ahead (left_of told old) calm within full budget more says.0 ∙ kept_fault told old new ahead _ gives.0
+beyond_limit told old new ahead (line.Bytes taken) calm within full budget gives says n more =
+    limit_reached old n (line.Bytes taken) ahead (left_of told old) calm within full budget more says.0 ∙ kept_fault told old new ahead _ gives.0
 
 -- what is left is the same where a block was taken
 refilled_over :

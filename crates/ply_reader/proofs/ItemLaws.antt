@@ -8,14 +8,15 @@ use Rattle.mesh_data.specs.declared.items.MeshFault.{MeshFault}
 use Rattle.mesh_data.specs.declared.items.MeshFault.TheVariants.{Read, Text, TooMany, Memory}
 use Rattle.mesh_data.specs.Reading.{Gives, behind, nothing_more}
 use Rattle.oemm_lines.specs.Stream.{left_of}
+use Rattle.mesh_reading.specs.Progress.{MayFollow, given_by}
 use Rattle.ply_reader.specs.declared.layout.Layout.{Layout}
 use Rattle.ply_reader.specs.Body.{Rest, item_in}
-use Rattle.ply_reader.specs.Feed.{Feed, MayFollow, rest_with, rest_left, found, failed, Fails}
+use Rattle.ply_reader.specs.Feed.{Feed, rest_with, rest_left, found, failed, Fails}
 use Rattle.ply_reader.specs.Mesh.{items_of, begun_by}
-use Rattle.ply_reader.specs.Reader.{only, given_by, items_left, only_fault, Ends}
+use Rattle.ply_reader.specs.Reader.{counts_of, only, items_left, only_fault, Ends}
 use Rattle.ply_reader.proofs.StepLaws.{some_is}
 
-items_suc : (l : Layout) (n m done : ℕ) (r : Rest) → n ≡ m + 1 → items_of l n done r ≡ begun_by (item_in l done r) (items_of l m (done + 1))
+pub items_suc : (l : Layout) (n m done : ℕ) (r : Rest) → n ≡ m + 1 → items_of l n done r ≡ begun_by (item_in l done r) (items_of l m (done + 1))
 unfolding items_of
 items_suc l n m done r is = ap (λ k. items_of l k done r) (is ∙ add-one m)
 
@@ -51,9 +52,9 @@ items_fail told f l done (TooMany what count) old more fails = fault_over l done
 given_item : (v f done : ℕ) (i : Item) → done < v + f → MayFollow v done i → Gives (record { counts = Some (v, f); vertices = min done v; faces = done - v; fault = None }) i (record { counts = Some (v, f); vertices = min (done + 1) v; faces = done + 1 - v; fault = None })
 given_item v f done (Counts m n) below may = absurd may
 given_item v f done (Vertex p) below may = (v, f, refl, (omega arith, grind arith))
-given_item v f done (Face t) below may = (v, f, refl, (omega arith, omega arith, may.1.0, may.1.1, grind arith))
+given_item v f done (Face t) below may = (v, f, refl, (omega arith, omega arith, may.1, may.2, grind arith))
 
 pub given_next :
     (l : Layout) (layout : Option Layout) (fault : Option MeshFault) (done : ℕ) (i : Item) → fault ≡ None → layout ≡ Some l → done < l.vertex.count + l.face.count → MayFollow l.vertex.count done i →
-    ((given_by layout done fault).fault ≡ None) × Gives (given_by layout done fault) i (given_by layout (done + 1) fault)
+    ((given_by (option_map counts_of layout) done fault).fault ≡ None) × Gives (given_by (option_map counts_of layout) done fault) i (given_by (option_map counts_of layout) (done + 1) fault)
 given_next l layout fault done i calm is below may = rw (calm, is) (refl, given_item l.vertex.count l.face.count done i below may)

@@ -5,3 +5,4 @@ pub mod RecordLaws
 pub mod BodyLaws
 pub mod LineSteps
 pub mod ItemLaws
+pub mod GrammarLaws

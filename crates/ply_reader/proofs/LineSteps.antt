@@ -9,13 +9,14 @@ use Rattle.mesh_data.specs.declared.items.MeshFault.TheVariants.{Read, Text, Too
 use Rattle.mesh_data.specs.declared.items.MeshWhy.TheVariants.{Head}
 use Rattle.mesh_data.specs.Reading.{Reading, fault_alone}
 use Rattle.oemm_lines.specs.declared.parts.Line.{Line}
-use Rattle.oemm_lines.specs.Stream.{Stream, Flow, behind, left_of, left_with, flow_of, GivesLine, IsLineEnd, IsDrained}
+use Rattle.oemm_lines.specs.Stream.{Stream, Flow, behind, left_of, left_with, flow_of, texts_of, GivesLine, IsLineEnd, IsDrained}
+use Rattle.mesh_reading.specs.Faults.{end_fault}
 use Rattle.ply_reader.specs.declared.layout.Layout.{Layout}
 use Rattle.ply_reader.specs.declared.layout.Header.{Header}
 use Rattle.ply_reader.specs.Results.{Answers}
 use Rattle.ply_reader.specs.Header.{nothing_declared, header_after, ends, layout_of}
 use Rattle.ply_reader.specs.Body.{Rest, forward}
-use Rattle.ply_reader.specs.Mesh.{counted, declared, end_fault, end_size, behind_line, texts, from_first, from_header, is_first, laid}
+use Rattle.ply_reader.specs.Mesh.{counted, declared, end_size, behind_line, from_first, from_header, is_first, laid}
 use Rattle.ply_reader.specs.Feed.{Feed, rest_with, rest_left}
 use Rattle.ply_reader.specs.Reader.{Lined, lined, rest_of, first_of, header_of, only_fault, only_end, StopsLines, Ends}
 use Rattle.ply_reader.proofs.StepLaws.{some_is}
@@ -96,37 +97,37 @@ step :
 step told old line new F H g goes = step_over told old line new F H g goes (left_of told new) refl
 
 -- the first line
-first_goes : (line : Line) (q : Lined) (r : Rest) → is_first (texts line) ≡ true → from_first q.end (line ∷ q.lines) r ≡ from_header q.end q.lines nothing_declared (behind_line line r)
+first_goes : (line : Line) (q : Lined) (r : Rest) → is_first (texts_of line) ≡ true → from_first q.end (line ∷ q.lines) r ≡ from_header q.end q.lines nothing_declared (behind_line line r)
 unfolding from_first
 first_goes line q r is = rw is refl
 
-first_stops : (line : Line) (q : Lined) (r : Rest) → is_first (texts line) ≡ false → from_first q.end (line ∷ q.lines) r ≡ fault_alone (Text line.at Head)
+first_stops : (line : Line) (q : Lined) (r : Rest) → is_first (texts_of line) ≡ false → from_first q.end (line ∷ q.lines) r ≡ fault_alone (Text line.at Head)
 unfolding from_first
 first_stops line q r is = rw is refl
 
-pub first_next : {S : Type 0} (told : S → Told) (old : Stream S) (line : Line) (new : Stream S) → GivesLine told old line new → is_first (texts line) ≡ true → option_map (first_of old) (left_of told old) ≡ option_map (header_of nothing_declared new) (left_of told new)
+pub first_next : {S : Type 0} (told : S → Told) (old : Stream S) (line : Line) (new : Stream S) → GivesLine told old line new → is_first (texts_of line) ≡ true → option_map (first_of old) (left_of told old) ≡ option_map (header_of nothing_declared new) (left_of told new)
 first_next told old line new g is = step told old line new (λ q r. from_first q.end q.lines r) (λ q r. from_header q.end q.lines nothing_declared r) g (λ q r. first_goes line q r is)
 
-pub first_fails : {S : Type 0} (told : S → Told) (old : Stream S) (line : Line) (new : Stream S) → GivesLine told old line new → is_first (texts line) ≡ false → option_map (first_of old) (left_of told old) ≡ option_map (only_fault (Text line.at Head)) (left_of told new)
+pub first_fails : {S : Type 0} (told : S → Told) (old : Stream S) (line : Line) (new : Stream S) → GivesLine told old line new → is_first (texts_of line) ≡ false → option_map (first_of old) (left_of told old) ≡ option_map (only_fault (Text line.at Head)) (left_of told new)
 first_fails told old line new g is = step told old line new (λ q r. from_first q.end q.lines r) (λ q r. fault_alone (Text line.at Head)) g (λ q r. first_stops line q r is)
 
 -- a further line
 abbrev pub goes_on : Result Header MeshFault → Lined → Rest → Reading
 goes_on after q r = declared after (λ next. from_header q.end q.lines next r)
 
-header_goes : (h : Header) (line : Line) (q : Lined) (r : Rest) → ends h (texts line) ≡ false → from_header q.end (line ∷ q.lines) h r ≡ goes_on (header_after h line.at (texts line)) q (behind_line line r)
+header_goes : (h : Header) (line : Line) (q : Lined) (r : Rest) → ends h (texts_of line) ≡ false → from_header q.end (line ∷ q.lines) h r ≡ goes_on (header_after h line.at (texts_of line)) q (behind_line line r)
 unfolding from_header
 header_goes h line q r is = rw is refl
 
-header_stops : (h : Header) (line : Line) (q : Lined) (r : Rest) → ends h (texts line) ≡ true → from_header q.end (line ∷ q.lines) h r ≡ counted (layout_of h line.at (texts line)) (behind_line line r)
+header_stops : (h : Header) (line : Line) (q : Lined) (r : Rest) → ends h (texts_of line) ≡ true → from_header q.end (line ∷ q.lines) h r ≡ counted (layout_of h line.at (texts_of line)) (behind_line line r)
 unfolding from_header
 header_stops h line q r is = rw is refl
 
-pub header_next : {S : Type 0} (told : S → Told) (old : Stream S) (h : Header) (line : Line) (new : Stream S) → GivesLine told old line new → ends h (texts line) ≡ false → option_map (header_of h old) (left_of told old) ≡ option_map (over (goes_on (header_after h line.at (texts line))) new) (left_of told new)
-header_next told old h line new g is = step told old line new (λ q r. from_header q.end q.lines h r) (goes_on (header_after h line.at (texts line))) g (λ q r. header_goes h line q r is)
+pub header_next : {S : Type 0} (told : S → Told) (old : Stream S) (h : Header) (line : Line) (new : Stream S) → GivesLine told old line new → ends h (texts_of line) ≡ false → option_map (header_of h old) (left_of told old) ≡ option_map (over (goes_on (header_after h line.at (texts_of line))) new) (left_of told new)
+header_next told old h line new g is = step told old line new (λ q r. from_header q.end q.lines h r) (goes_on (header_after h line.at (texts_of line))) g (λ q r. header_goes h line q r is)
 
-pub header_ends : {S : Type 0} (told : S → Told) (old : Stream S) (h : Header) (line : Line) (new : Stream S) → GivesLine told old line new → ends h (texts line) ≡ true → option_map (header_of h old) (left_of told old) ≡ option_map (over (λ q r. counted (layout_of h line.at (texts line)) r) new) (left_of told new)
-header_ends told old h line new g is = step told old line new (λ q r. from_header q.end q.lines h r) (λ q r. counted (layout_of h line.at (texts line)) r) g (λ q r. header_stops h line q r is)
+pub header_ends : {S : Type 0} (told : S → Told) (old : Stream S) (h : Header) (line : Line) (new : Stream S) → GivesLine told old line new → ends h (texts_of line) ≡ true → option_map (header_of h old) (left_of told old) ≡ option_map (over (λ q r. counted (layout_of h line.at (texts_of line)) r) new) (left_of told new)
+header_ends told old h line new g is = step told old line new (λ q r. from_header q.end q.lines h r) (λ q r. counted (layout_of h line.at (texts_of line)) r) g (λ q r. header_stops h line q r is)
 
 -- the header that was declared
 pub header_on : {S : Type 0} (s : Stream S) (after : Result Header MeshFault) (h : Header) (left : Told) → after ≡ Ok h → option_map (over (goes_on after) s) left ≡ option_map (header_of h s) left

@@ -9,14 +9,16 @@ use Rattle.fault_counts.specs.Told.{Told}
 use Rattle.byteorder.specs.Endian.{twos_complement}
 use Rattle.byteorder.specs.Numbers.{little_from-append, big_from-append}
 use Rattle.oemm_lines.specs.Stream.{left_of}
-use Rattle.ply_reader.specs.declared.layout.Order.{Order}
-use Rattle.ply_reader.specs.declared.layout.Order.TheVariants.{Little, Big}
-use Rattle.ply_reader.specs.declared.layout.Number.{Number}
-use Rattle.ply_reader.specs.declared.layout.Number.TheVariants.{I8, U8, I16, U16, I32, U32, F32, F64}
+use Rattle.mesh_reading.specs.Results.{◌>>=◌, IsOfText}
+use Rattle.mesh_reading.specs.Faults.{most_mesh_bytes}
+use Rattle.mesh_reading.specs.Faces.{name_of, triangle_of}
+use Rattle.ply_reader.specs.declared.layout.ByteOrder.{ByteOrder}
+use Rattle.ply_reader.specs.declared.layout.ByteOrder.TheVariants.{Little, Big}
+use Rattle.ply_reader.specs.declared.layout.ScalarType.{ScalarType}
+use Rattle.ply_reader.specs.declared.layout.ScalarType.TheVariants.{I8, U8, I16, U16, I32, U32, F32, F64}
 use Rattle.ply_reader.specs.declared.values.Record.{Record}
-use Rattle.ply_reader.specs.Results.{◌>>=◌, IsOfText}
 use Rattle.ply_reader.specs.Layout.{size_of}
-use Rattle.ply_reader.specs.Body.{Rest, forward, passed, most_mesh_bytes, bits_of, number_of, name_of, index_at, triangle_of, triangle_at}
+use Rattle.ply_reader.specs.Body.{Rest, forward, passed, bits_of, number_of, index_at, triangle_at}
 use Rattle.ply_reader.specs.Feed.{Feed, rest_with, rest_left, failed, found, Fails, Finds, Passes}
 use Rattle.ply_reader.proofs.FeedLaws.{passed-more, passed-on}
 
@@ -146,11 +148,11 @@ pub taken_then :
 taken_then told f size value next new front moved limit = taken_over size value next (f.stream.at - length f.ahead) f.ahead (left_of told f.stream) new front moved limit
 
 -- the numbers at the front, whatever stands behind them
-bits_of-front : (order : Order) (size : ℕ) (xs ys : List ℕ) → size ≤ length xs → bits_of order size (xs ++ ys) ≡ bits_of order size xs
+bits_of-front : (order : ByteOrder) (size : ℕ) (xs ys : List ℕ) → size ≤ length xs → bits_of order size (xs ++ ys) ≡ bits_of order size xs
 bits_of-front Little size xs ys there = little_from-append size xs ys there
 bits_of-front Big size xs ys there = big_from-append size xs ys there
 
-pub number_of-front : (order : Order) (number : Number) (xs ys : List ℕ) → size_of number ≤ length xs → number_of order number (xs ++ ys) ≡ number_of order number xs
+pub number_of-front : (order : ByteOrder) (number : ScalarType) (xs ys : List ℕ) → size_of number ≤ length xs → number_of order number (xs ++ ys) ≡ number_of order number xs
 number_of-front order I8 xs ys there = ap (twos_complement 1) (bits_of-front order 1 xs ys there)
 number_of-front order U8 xs ys there = ap pos (bits_of-front order 1 xs ys there)
 number_of-front order I16 xs ys there = ap (twos_complement 2) (bits_of-front order 2 xs ys there)
@@ -160,14 +162,14 @@ number_of-front order U32 xs ys there = ap pos (bits_of-front order 4 xs ys ther
 number_of-front order F32 xs ys there = refl
 number_of-front order F64 xs ys there = refl
 
-index_at-front : (rec : Record) (item : Number) (n : ℕ) (xs ys : List ℕ) → n + size_of item ≤ length xs → index_at rec item (drop n (xs ++ ys)) ≡ index_at rec item (drop n xs)
+index_at-front : (rec : Record) (item : ScalarType) (n : ℕ) (xs ys : List ℕ) → n + size_of item ≤ length xs → index_at rec item (drop n (xs ++ ys)) ≡ index_at rec item (drop n xs)
 index_at-front rec item n xs ys there =
     let size = length-drop n xs in
     ap (λ (bytes : List ℕ). index_at rec item bytes) (drop-append-le n xs ys (omega arith))
     ∙ ap (name_of rec.vertices) (number_of-front rec.order item (drop n xs) ys (omega (arith, size)))
 
-pub triangle_at-front : (rec : Record) (item : Number) (xs ys : List ℕ) → 3 * size_of item ≤ length xs → triangle_at rec item (xs ++ ys) ≡ triangle_at rec item xs
+pub triangle_at-front : (rec : Record) (item : ScalarType) (xs ys : List ℕ) → 3 * size_of item ≤ length xs → triangle_at rec item (xs ++ ys) ≡ triangle_at rec item xs
 triangle_at-front rec item xs ys there =
-    ap (λ i. triangle_of rec i (index_at rec item (drop (size_of item) (xs ++ ys))) (index_at rec item (drop (2 * size_of item) (xs ++ ys)))) (index_at-front rec item 0 xs ys (omega arith))
-    ∙ ap (λ j. triangle_of rec (index_at rec item xs) j (index_at rec item (drop (2 * size_of item) (xs ++ ys)))) (index_at-front rec item (size_of item) xs ys (omega arith))
-    ∙ ap (triangle_of rec (index_at rec item xs) (index_at rec item (drop (size_of item) xs))) (index_at-front rec item (2 * size_of item) xs ys (omega arith))
+    ap (λ i. triangle_of rec.at rec.number i (index_at rec item (drop (size_of item) (xs ++ ys))) (index_at rec item (drop (2 * size_of item) (xs ++ ys)))) (index_at-front rec item 0 xs ys (omega arith))
+    ∙ ap (λ j. triangle_of rec.at rec.number (index_at rec item xs) j (index_at rec item (drop (2 * size_of item) (xs ++ ys)))) (index_at-front rec item (size_of item) xs ys (omega arith))
+    ∙ ap (triangle_of rec.at rec.number (index_at rec item xs) (index_at rec item (drop (size_of item) xs))) (index_at-front rec item (2 * size_of item) xs ys (omega arith))

@@ -1,5 +1,5 @@
 -- The records behind a PLY header, property by property. What is left of the file is its bytes from a place on.
-use Rattle.std.specs.Prelude.{ℕ, zero, suc, ◌+◌, ◌-◌, ◌*◌, ◌==◌, ◌||◌, Bool, nat_lt, min, ℤ, pos, negsuc, List, [], ◌∷◌, length, drop, if◌then◌else◌, Option, Some, None, Result, Ok, Err}
+use Rattle.std.specs.Prelude.{ℕ, zero, suc, ◌+◌, ◌-◌, ◌*◌, ◌==◌, Bool, nat_lt, min, ℤ, pos, negsuc, List, [], ◌∷◌, length, drop, if◌then◌else◌, Option, Some, None, Result, Ok, Err}
 use Rattle.std.specs.Option.{ok_or}
 use Rattle.byteorder.specs.Endian.{big_number, little_number, twos_complement}
 use Rattle.mesh_data.specs.Mesh.{origin}
@@ -9,13 +9,16 @@ use Rattle.mesh_data.specs.declared.geometry.Tri.{Tri}
 use Rattle.mesh_data.specs.declared.items.Item.{Item}
 use Rattle.mesh_data.specs.declared.items.Item.TheVariants as item
 use Rattle.mesh_data.specs.declared.items.What.TheVariants.{MeshBytes}
-use Rattle.mesh_data.specs.declared.items.MeshWhy.TheVariants.{NoProperty, ListCount, OutOfRange, NotTriangle, BadIndex, Repeated, Cut}
+use Rattle.mesh_data.specs.declared.items.MeshWhy.TheVariants.{NoProperty, ListCount, OutOfRange, NotTriangle, Cut}
 use Rattle.mesh_data.specs.declared.items.MeshFault.{MeshFault}
 use Rattle.mesh_data.specs.declared.items.MeshFault.TheVariants.{Text, TooMany}
-use Rattle.ply_reader.specs.declared.layout.Order.{Order}
-use Rattle.ply_reader.specs.declared.layout.Order.TheVariants.{Little, Big}
-use Rattle.ply_reader.specs.declared.layout.Number.{Number}
-use Rattle.ply_reader.specs.declared.layout.Number.TheVariants.{I8, U8, I16, U16, I32, U32, F32, F64}
+use Rattle.mesh_reading.specs.Results.{◌>>=◌}
+use Rattle.mesh_reading.specs.Faults.{most_mesh_bytes}
+use Rattle.mesh_reading.specs.Faces.{name_of, triangle_of}
+use Rattle.ply_reader.specs.declared.layout.ByteOrder.{ByteOrder}
+use Rattle.ply_reader.specs.declared.layout.ByteOrder.TheVariants.{Little, Big}
+use Rattle.ply_reader.specs.declared.layout.ScalarType.{ScalarType}
+use Rattle.ply_reader.specs.declared.layout.ScalarType.TheVariants.{I8, U8, I16, U16, I32, U32, F32, F64}
 use Rattle.ply_reader.specs.declared.layout.Axis.{Axis}
 use Rattle.ply_reader.specs.declared.layout.Axis.TheVariants.{X, Y, Z}
 use Rattle.ply_reader.specs.declared.layout.Property.{Property}
@@ -24,12 +27,7 @@ use Rattle.ply_reader.specs.declared.layout.Element.{Element}
 use Rattle.ply_reader.specs.declared.layout.Layout.{Layout}
 use Rattle.ply_reader.specs.declared.values.Values.{Values}
 use Rattle.ply_reader.specs.declared.values.Record.{Record}
-use Rattle.ply_reader.specs.Results.{◌>>=◌}
 use Rattle.ply_reader.specs.Layout.{size_of}
-
--- the greatest number of bytes of a mesh that are looked at
-abbrev pub most_mesh_bytes : ℕ
-most_mesh_bytes = 8589934592
 
 -- what is left of a file: the number of bytes before, and the bytes
 pub record Rest : Type 0 where
@@ -47,12 +45,12 @@ passed n r =
     else Ok (forward n r)
 
 -- the number of the first bytes
-abbrev pub bits_of : Order → ℕ → List ℕ → ℕ
+abbrev pub bits_of : ByteOrder → ℕ → List ℕ → ℕ
 bits_of Little size bytes = little_number size bytes
 bits_of Big size bytes = big_number size bytes
 
 -- the whole number that stands at the front; what a floating-point one is isn't looked at
-abbrev pub number_of : Order → Number → List ℕ → ℤ
+abbrev pub number_of : ByteOrder → ScalarType → List ℕ → ℤ
 number_of order I8 bytes = twos_complement 1 (bits_of order 1 bytes)
 number_of order U8 bytes = pos (bits_of order 1 bytes)
 number_of order I16 bytes = twos_complement 2 (bits_of order 2 bytes)
@@ -63,7 +61,7 @@ number_of order F32 bytes = pos 0
 number_of order F64 bytes = pos 0
 
 -- the number at the front, and what is left behind it
-abbrev pub number_in : Order → Number → Rest → Result (ℤ × Rest) MeshFault
+abbrev pub number_in : ByteOrder → ScalarType → Rest → Result (ℤ × Rest) MeshFault
 number_in order number r = passed (size_of number) r >>= λ behind. Ok (number_of order number r.bytes, behind)
 
 -- nothing of a record was read yet
@@ -82,7 +80,7 @@ with_coordinate rec axis n v =
     else Err (Text rec.at (OutOfRange rec.number))
 
 -- the values with the coordinate at the front, and what is left behind it
-abbrev pub coordinate_in : Record → Axis → Number → Values → Rest → Result (Values × Rest) MeshFault
+abbrev pub coordinate_in : Record → Axis → ScalarType → Values → Rest → Result (Values × Rest) MeshFault
 coordinate_in rec axis number v r =
     number_in rec.order number r >>= λ n. with_coordinate rec axis n.0 v >>= λ w. Ok (w, n.1)
 
@@ -92,42 +90,29 @@ list_count rec (pos n) = Ok n
 list_count rec (negsuc n) = Err (Text rec.at ListCount)
 
 -- how many items the list at the front has, and what is left behind that number
-abbrev pub count_in : Record → Number → Rest → Result (ℕ × Rest) MeshFault
+abbrev pub count_in : Record → ScalarType → Rest → Result (ℕ × Rest) MeshFault
 count_in rec count r = number_in rec.order count r >>= λ c. list_count rec c.0 >>= λ n. Ok (n, c.1)
 
 -- what is left behind a list
-abbrev pub list_passed : Record → Number → Number → Rest → Result Rest MeshFault
+abbrev pub list_passed : Record → ScalarType → ScalarType → Rest → Result Rest MeshFault
 list_passed rec count item r = count_in rec count r >>= λ c. passed (c.0 * size_of item) c.1
 
--- the name that an index means among so many vertices, if it is in range
-abbrev pub name_of : ℕ → ℤ → Option ℕ
-name_of vertices (pos n) = if nat_lt n vertices then Some n else None
-name_of vertices (negsuc n) = None
-
 -- what the index at the front means
-abbrev pub index_at : Record → Number → List ℕ → Option ℕ
+abbrev pub index_at : Record → ScalarType → List ℕ → Option ℕ
 index_at rec item bytes = name_of rec.vertices (number_of rec.order item bytes)
 
--- the triangle that three indices mean
-unfoldable pub triangle_of : Record → Option ℕ → Option ℕ → Option ℕ → Result Tri MeshFault
-triangle_of rec i j k = do
-  a ← ok_or i (Text rec.at (BadIndex rec.number))
-  b ← ok_or j (Text rec.at (BadIndex rec.number))
-  c ← ok_or k (Text rec.at (BadIndex rec.number))
-  if a == b || b == c || c == a then Err (Text rec.at (Repeated rec.number)) else Ok (record { a = a; b = b; c = c })
-
 -- the triangle of the three numbers at the front
-abbrev pub triangle_at : Record → Number → List ℕ → Result Tri MeshFault
+abbrev pub triangle_at : Record → ScalarType → List ℕ → Result Tri MeshFault
 triangle_at rec item bytes =
-    triangle_of rec (index_at rec item bytes) (index_at rec item (drop (size_of item) bytes))
+    triangle_of rec.at rec.number (index_at rec item bytes) (index_at rec item (drop (size_of item) bytes))
     (index_at rec item (drop (2 * size_of item) bytes))
 
 -- the triangle of the three indices at the front, which are all there before one of them is looked at
-unfoldable pub indices_in : Record → Number → Rest → Result (Tri × Rest) MeshFault
+unfoldable pub indices_in : Record → ScalarType → Rest → Result (Tri × Rest) MeshFault
 indices_in rec item r = passed (3 * size_of item) r >>= λ behind. triangle_at rec item r.bytes >>= λ t. Ok (t, behind)
 
 -- the triangle of the list of indices at the front, of which there are three
-unfoldable pub corners_in : Record → Number → Number → Rest → Result (Tri × Rest) MeshFault
+unfoldable pub corners_in : Record → ScalarType → ScalarType → Rest → Result (Tri × Rest) MeshFault
 corners_in rec count item r = count_in rec count r >>= λ c.
     if c.0 == 3 then indices_in rec item c.1 else Err (Text rec.at (NotTriangle rec.number))
 
@@ -144,25 +129,25 @@ properties_in rec [] v r = Ok (v, r)
 properties_in rec (p ∷ ps) v r = property_in rec p v r >>= λ w. properties_in rec ps w.0 w.1
 
 -- a record that isn't looked at
-abbrev pub foreign_record : Order → ℕ → Record
+abbrev pub foreign_record : ByteOrder → ℕ → Record
 foreign_record order at = record { order = order; at = at; number = 0; vertices = 0 }
 
 -- what is left behind a record with these properties
-unfoldable pub record_passed : Order → List Property → Rest → Result Rest MeshFault
+unfoldable pub record_passed : ByteOrder → List Property → Rest → Result Rest MeshFault
 record_passed order ps r = properties_in (foreign_record order r.at) ps no_values r >>= λ w. Ok w.1
 
 -- what is left behind so many of them
-unfoldable pub records_passed : Order → List Property → ℕ → Rest → Result Rest MeshFault
+unfoldable pub records_passed : ByteOrder → List Property → ℕ → Rest → Result Rest MeshFault
 records_passed order ps zero r = Ok r
 records_passed order ps (suc n) r = record_passed order ps r >>= records_passed order ps n
 
 -- what is left behind these elements
-unfoldable pub elements_passed : Order → List Element → Rest → Result Rest MeshFault
+unfoldable pub elements_passed : ByteOrder → List Element → Rest → Result Rest MeshFault
 elements_passed order [] r = Ok r
 elements_passed order (e ∷ es) r = records_passed order e.properties e.count r >>= elements_passed order es
 
 -- what is left behind the elements, if they stand here
-abbrev pub passed_if : Bool → Order → List Element → Rest → Result Rest MeshFault
+abbrev pub passed_if : Bool → ByteOrder → List Element → Rest → Result Rest MeshFault
 passed_if here order es r = if here then elements_passed order es r else Ok r
 
 -- what is left behind the foreign elements that stand in front of the vertex or face behind so many of them

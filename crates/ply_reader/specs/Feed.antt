@@ -5,17 +5,13 @@ use Rattle.fault_counts.specs.Told.{Told}
 use Rattle.oemm_lines.specs.Stream.{Stream, left_of}
 use Rattle.mesh_data.specs.declared.items.MeshFault.{MeshFault}
 use Rattle.mesh_data.specs.declared.items.MeshFault.TheVariants.{Read, Text, TooMany, Memory}
-use Rattle.mesh_data.specs.declared.items.What.TheVariants.{MeshBytes}
-use Rattle.oemm_lines.specs.declared.parts.LineFault.{LineFault}
-use Rattle.oemm_lines.specs.declared.parts.LineFault.TheVariants as line
 use Rattle.mesh_data.specs.declared.geometry.Tri.{Tri}
 use Rattle.mesh_data.specs.Triangles.{IsProper, IsBelow}
-use Rattle.mesh_data.specs.declared.items.Item.{Item}
-use Rattle.mesh_data.specs.declared.items.Item.TheVariants as item
 use Rattle.ply_reader.specs.declared.layout.Property.{Property}
 use Rattle.ply_reader.specs.declared.layout.Property.TheVariants.{Single}
 use Rattle.ply_reader.specs.Layout.{size_of}
-use Rattle.ply_reader.specs.Body.{Rest, most_mesh_bytes, passed}
+use Rattle.mesh_reading.specs.Faults.{most_mesh_bytes}
+use Rattle.ply_reader.specs.Body.{Rest, passed}
 
 -- a stream of lines, and the raw bytes that were taken from it and not yet given
 pub record Feed (S : Type 0) : Type 0 where
@@ -70,20 +66,8 @@ Stays defined old (Err fault) new = Fails defined old fault new
 abbrev pub FailsBeyond : ℕ → Option Rest → MeshFault → Option Rest → Type 0
 FailsBeyond have old fault new = (n : ℕ) → have < n → Fails (passed n) old fault new
 
--- the fault of a line that would begin at the limit: there it isn't too long
-abbrev pub fault_at_limit : LineFault → MeshFault
-fault_at_limit (line.Bytes taken) = TooMany MeshBytes most_mesh_bytes
-fault_at_limit line.Read = Read
-fault_at_limit fault = Memory
-
 -- how many bytes properties have behind so many, where each of them is a number
 unfoldable pub fixed_from : ℕ → List Property → Option ℕ
 fixed_from n [] = Some n
 fixed_from n (Single number ∷ ps) = fixed_from (n + size_of number) ps
 fixed_from n (p ∷ ps) = None
-
--- an item that may follow so many vertices and faces
-abbrev pub MayFollow : ℕ → ℕ → Item → Type 0
-MayFollow vertices done (item.Counts v f) = ⊥
-MayFollow vertices done (item.Vertex p) = done < vertices
-MayFollow vertices done (item.Face t) = (vertices ≤ done) × IsFaceBelow vertices t

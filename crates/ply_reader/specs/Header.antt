@@ -12,13 +12,13 @@ use Rattle.mesh_data.specs.declared.items.MeshFault.{MeshFault}
 use Rattle.mesh_data.specs.declared.items.MeshFault.TheVariants.{Text, TooMany}
 use Rattle.mesh_data.specs.Reading.{most_items}
 use Rattle.oemm_lines.specs.Numbers.{whole_of}
-use Rattle.ply_reader.specs.declared.layout.Order.{Order}
-use Rattle.ply_reader.specs.declared.layout.Order.TheVariants.{Little, Big}
-use Rattle.ply_reader.specs.declared.layout.Number.{Number as NumberType}
+use Rattle.ply_reader.specs.declared.layout.ByteOrder.{ByteOrder}
+use Rattle.ply_reader.specs.declared.layout.ByteOrder.TheVariants.{Little, Big}
+use Rattle.ply_reader.specs.declared.layout.ScalarType.{ScalarType}
 use Rattle.ply_reader.specs.declared.layout.Axis.{Axis}
 use Rattle.ply_reader.specs.declared.layout.Axis.TheVariants.{X, Y, Z}
-use Rattle.ply_reader.specs.declared.layout.Form.{Form}
-use Rattle.ply_reader.specs.declared.layout.Form.TheVariants.{Plain, Listed}
+use Rattle.ply_reader.specs.declared.layout.PropertyType.{PropertyType}
+use Rattle.ply_reader.specs.declared.layout.PropertyType.TheVariants as value
 use Rattle.ply_reader.specs.declared.layout.Property.{Property}
 use Rattle.ply_reader.specs.declared.layout.Property.TheVariants.{Coordinate, Corners, Single, Many}
 use Rattle.ply_reader.specs.declared.layout.Role.{Role}
@@ -26,8 +26,8 @@ use Rattle.ply_reader.specs.declared.layout.Role.TheVariants.{Vertices, Faces, F
 use Rattle.ply_reader.specs.declared.layout.Element.{Element}
 use Rattle.ply_reader.specs.declared.layout.Layout.{Layout}
 use Rattle.ply_reader.specs.declared.layout.Header.{Header}
-use Rattle.ply_reader.specs.Results.{◌>>=◌, only_if}
-use Rattle.ply_reader.specs.Layout.{is_float, is_either, number_named, axis_named, names_corners, same_axis}
+use Rattle.mesh_reading.specs.Results.{◌>>=◌, only_if}
+use Rattle.ply_reader.specs.Layout.{is_float, is_either, scalar_named, axis_named, names_corners, same_axis}
 
 -- nothing was declared yet
 abbrev pub nothing_declared : Header
@@ -56,13 +56,13 @@ at_line_end at x [] = Ok x
 at_line_end at x (w ∷ ws) = Err (Text at HeadLine)
 
 -- the order that the words of the format say
-unfoldable pub order_of : ℕ → List ℕ → Result Order MeshFault
+unfoldable pub order_of : ℕ → List ℕ → Result ByteOrder MeshFault
 order_of at name =
     if bytes_eq name (codes "binary_little_endian") then Ok Little
     else if bytes_eq name (codes "binary_big_endian") then Ok Big
     else Err (Text at (if bytes_eq name (codes "ascii") then Ascii else HeadLine))
 
-abbrev pub format_of : ℕ → List (List ℕ) → Result Order MeshFault
+abbrev pub format_of : ℕ → List (List ℕ) → Result ByteOrder MeshFault
 format_of at (first ∷ name ∷ version ∷ []) =
     if bytes_eq first (codes "format") && bytes_eq version (codes "1.0") then order_of at name
     else Err (Text at HeadLine)
@@ -113,19 +113,19 @@ with_element h at (name ∷ words) = do
   Ok (record (closed h) { last = Some (record { role = role; count = count; properties = [] }) })
 
 -- what a property that isn't read holds
-abbrev pub unread : Form → Property
-unread (Plain number) = Single number
-unread (Listed count item) = Many count item
+abbrev pub unread : PropertyType → Property
+unread (value.Scalar number) = Single number
+unread (value.List count item) = Many count item
 
--- a coordinate of this form, or what is wrong with it
-abbrev pub coordinate_of : ℕ → Axis → Form → Result Property MeshFault
-coordinate_of at axis (Plain number) = only_if (not (is_float number)) (Coordinate axis number) (Text at FloatCoordinate)
-coordinate_of at axis (Listed count item) = Err (Text at Kind)
+-- a coordinate of this type, or what is wrong with it
+abbrev pub coordinate_of : ℕ → Axis → PropertyType → Result Property MeshFault
+coordinate_of at axis (value.Scalar number) = only_if (not (is_float number)) (Coordinate axis number) (Text at FloatCoordinate)
+coordinate_of at axis (value.List count item) = Err (Text at Kind)
 
--- the indices of a face in this form, or what is wrong with them
-abbrev pub corners_of : ℕ → Form → Result Property MeshFault
-corners_of at (Plain number) = Err (Text at Kind)
-corners_of at (Listed count item) = only_if (not (is_float item)) (Corners count item) (Text at Kind)
+-- the indices of a face of this type, or what is wrong with them
+abbrev pub corners_of : ℕ → PropertyType → Result Property MeshFault
+corners_of at (value.Scalar number) = Err (Text at Kind)
+corners_of at (value.List count item) = only_if (not (is_float item)) (Corners count item) (Text at Kind)
 
 -- whether the property is the coordinate along this axis, and whether it is the list of indices
 abbrev pub is_along : Axis → Property → Bool
@@ -137,29 +137,29 @@ is_corners (Corners count item) = true
 is_corners property = false
 
 -- a property of a vertex that has this name, and of a face, behind others
-abbrev pub along : ℕ → List Property → Form → Option Axis → Result Property MeshFault
-along at others form None = Ok (unread form)
-along at others form (Some axis) = if list_any (is_along axis) others then Err (Text at Twice) else coordinate_of at axis form
+abbrev pub along : ℕ → List Property → PropertyType → Option Axis → Result Property MeshFault
+along at others kind None = Ok (unread kind)
+along at others kind (Some axis) = if list_any (is_along axis) others then Err (Text at Twice) else coordinate_of at axis kind
 
-unfoldable pub property_named : ℕ → Role → List Property → Form → List ℕ → Result Property MeshFault
-property_named at Vertices others form name = along at others form (axis_named name)
-property_named at Faces others form name =
-    if not (names_corners name) then Ok (unread form)
+unfoldable pub property_named : ℕ → Role → List Property → PropertyType → List ℕ → Result Property MeshFault
+property_named at Vertices others kind name = along at others kind (axis_named name)
+property_named at Faces others kind name =
+    if not (names_corners name) then Ok (unread kind)
     else if list_any is_corners others then Err (Text at Twice)
-    else corners_of at form
-property_named at Foreign others form name = Ok (unread form)
+    else corners_of at kind
+property_named at Foreign others kind name = Ok (unread kind)
 
--- a property by its form and the words from its name on
-abbrev pub named : ℕ → Element → Form → List (List ℕ) → Result Property MeshFault
-named at e form [] = Err (Text at HeadLine)
-named at e form (name ∷ words) = property_named at e.role e.properties form name >>= λ p. at_line_end at p words
+-- a property by its type and the words from its name on
+abbrev pub named : ℕ → Element → PropertyType → List (List ℕ) → Result Property MeshFault
+named at e kind [] = Err (Text at HeadLine)
+named at e kind (name ∷ words) = property_named at e.role e.properties kind name >>= λ p. at_line_end at p words
 
 -- the type that a word names
-abbrev pub type_of : ℕ → List ℕ → Result NumberType MeshFault
-type_of at word = ok_or (number_named word) (Text at HeadLine)
+abbrev pub type_of : ℕ → List ℕ → Result ScalarType MeshFault
+type_of at word = ok_or (scalar_named word) (Text at HeadLine)
 
 -- the type of a list's count, which isn't a floating-point one
-abbrev pub count_type_of : ℕ → List ℕ → Result NumberType MeshFault
+abbrev pub count_type_of : ℕ → List ℕ → Result ScalarType MeshFault
 count_type_of at word = type_of at word >>= λ t. only_if (not (is_float t)) t (Text at HeadLine)
 
 -- a list, by the words behind that word
@@ -167,7 +167,7 @@ unfoldable pub listed : ℕ → Element → List (List ℕ) → Result Property 
 listed at e (count ∷ item ∷ words) = do
   c ← count_type_of at count
   i ← type_of at item
-  named at e (Listed c i) words
+  named at e (value.List c i) words
 listed at e words = Err (Text at HeadLine)
 
 -- a property of an element, by the words behind the first of its line
@@ -175,7 +175,7 @@ unfoldable pub property_of : ℕ → Element → List (List ℕ) → Result Prop
 property_of at e [] = Err (Text at HeadLine)
 property_of at e (word ∷ words) =
     if bytes_eq word (codes "list") then listed at e words
-    else (type_of at word >>= λ t. named at e (Plain t) words)
+    else (type_of at word >>= λ t. named at e (value.Scalar t) words)
 
 -- the element with a property more
 abbrev pub longer : Element → Property → Element
@@ -224,7 +224,7 @@ missing vertex face =
     else if lacks is_corners face then Some (NoProperty 3)
     else None
 
-abbrev pub layout_with : Header → Order → Element → Element → Layout
+abbrev pub layout_with : Header → ByteOrder → Element → Element → Layout
 layout_with h order vertex face =
     record { order = order; before = h.before; vertex = vertex; between = h.between; face = face }
 

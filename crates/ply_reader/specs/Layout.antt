@@ -1,13 +1,13 @@
 -- The types of numbers of a PLY file, and what they are called.
 use Rattle.std.specs.Prelude.{ℕ, Bool, true, false, ◌||◌, List, codes, if◌then◌else◌, Option, Some, None}
 use Rattle.std.specs.Str.{bytes_eq}
-use Rattle.ply_reader.specs.declared.layout.Number.{Number}
-use Rattle.ply_reader.specs.declared.layout.Number.TheVariants.{I8, U8, I16, U16, I32, U32, F32, F64}
+use Rattle.ply_reader.specs.declared.layout.ScalarType.{ScalarType}
+use Rattle.ply_reader.specs.declared.layout.ScalarType.TheVariants.{I8, U8, I16, U16, I32, U32, F32, F64}
 use Rattle.ply_reader.specs.declared.layout.Axis.{Axis}
 use Rattle.ply_reader.specs.declared.layout.Axis.TheVariants.{X, Y, Z}
 
 -- how many bytes a number has
-abbrev pub size_of : Number → ℕ
+abbrev pub size_of : ScalarType → ℕ
 size_of I8 = 1
 size_of U8 = 1
 size_of I16 = 2
@@ -17,7 +17,7 @@ size_of U32 = 4
 size_of F32 = 4
 size_of F64 = 8
 
-abbrev pub is_float : Number → Bool
+abbrev pub is_float : ScalarType → Bool
 is_float F32 = true
 is_float F64 = true
 is_float number = false
@@ -27,8 +27,8 @@ abbrev pub is_either : List ℕ → List ℕ → List ℕ → Bool
 is_either word a b = bytes_eq word a || bytes_eq word b
 
 -- the type that a word names
-unfoldable pub number_named : List ℕ → Option Number
-number_named word =
+unfoldable pub scalar_named : List ℕ → Option ScalarType
+scalar_named word =
     if is_either word (codes "char") (codes "int8") then Some I8
     else if is_either word (codes "uchar") (codes "uint8") then Some U8
     else if is_either word (codes "short") (codes "int16") then Some I16

@@ -1,6 +1,7 @@
 -- Counts of vertices and faces that keep their limits.
 use Rattle.std.specs.Prelude.{ℕ, ◌≤◌, IfSome, ⊤}
 use Rattle.mesh_data.specs.Reading.{most_items}
+use Rattle.mesh_reading.specs.Progress.{AreLimited}
 use Rattle.ply_reader.specs.declared.layout.Role.{Role}
 use Rattle.ply_reader.specs.declared.layout.Role.TheVariants.{Vertices, Faces, Foreign}
 use Rattle.ply_reader.specs.declared.layout.Layout.{Layout}
@@ -21,4 +22,4 @@ abbrev pub IsLimited : Header → Type 0
 IsLimited h = IfSome h.last (λ e. HasFew e.role e.count) × IsStored h
 
 abbrev pub IsLaidOut : Layout → Type 0
-IsLaidOut l = (l.vertex.count ≤ most_items) × (l.face.count ≤ most_items)
+IsLaidOut l = AreLimited l.vertex.count l.face.count

@@ -1,26 +1,19 @@
 -- What a PLY file says, as a function of its bytes.
-use Rattle.std.specs.Prelude.{ℕ, zero, suc, ◌+◌, ◌==◌, false, List, [], ◌∷◌, length, drop, codes, if◌then◌else◌, Option, Some, None, Result, Ok, Err, Bool}
+use Rattle.std.specs.Prelude.{◌≡◌, ℕ, zero, suc, ◌+◌, ◌==◌, false, List, [], ◌∷◌, length, drop, codes, if◌then◌else◌, Result, Ok, Err, Bool}
 use Rattle.std.specs.Str.{bytes_eq}
 use Rattle.mesh_data.specs.Reading.{Reading, behind, fault_alone, nothing_more}
 use Rattle.mesh_data.specs.declared.items.Item.{Item}
 use Rattle.mesh_data.specs.declared.items.Item.TheVariants.{Counts}
-use Rattle.mesh_data.specs.declared.items.What.TheVariants.{MeshBytes, LineBytes}
-use Rattle.mesh_data.specs.declared.items.MeshWhy.TheVariants.{Head, Cut}
+use Rattle.mesh_data.specs.declared.items.MeshWhy.TheVariants.{Head}
 use Rattle.mesh_data.specs.declared.items.MeshFault.{MeshFault}
-use Rattle.mesh_data.specs.declared.items.MeshFault.TheVariants.{Read, Text, TooMany, Memory}
+use Rattle.mesh_data.specs.declared.items.MeshFault.TheVariants.{Text}
 use Rattle.oemm_lines.specs.declared.parts.Line.{Line}
-use Rattle.oemm_lines.specs.declared.parts.LineFault.{LineFault}
-use Rattle.oemm_lines.specs.declared.parts.LineFault.TheVariants as line
-use Rattle.oemm_lines.specs.Stream.{Flow, told_lines}
-use Rattle.oemm_lines.specs.Words.{words_of}
+use Rattle.oemm_lines.specs.Stream.{Flow, texts_of, told_lines}
+use Rattle.mesh_reading.specs.Faults.{end_fault, most_mesh_bytes}
 use Rattle.ply_reader.specs.declared.layout.Layout.{Layout}
 use Rattle.ply_reader.specs.declared.layout.Header.{Header}
 use Rattle.ply_reader.specs.Header.{nothing_declared, header_after, ends, layout_of}
-use Rattle.ply_reader.specs.Body.{Rest, forward, item_in, most_mesh_bytes}
-
--- the number of bytes from which on a line is too long
-abbrev pub too_many_line_bytes : ℕ
-too_many_line_bytes = 65537
+use Rattle.ply_reader.specs.Body.{Rest, forward, item_in}
 
 -- the reading that begins with this item, or the fault in its place
 abbrev pub begun_by : Result (Item × Rest) MeshFault → (Rest → Reading) → Reading
@@ -31,6 +24,11 @@ begun_by (Err fault) more = fault_alone fault
 unfoldable pub items_of : Layout → ℕ → ℕ → Rest → Reading
 items_of l zero done r = nothing_more
 items_of l (suc left) done r = begun_by (item_in l done r) (items_of l left (done + 1))
+
+-- these items stand one behind another, the first of them behind so many vertices and faces, and leave the other rest
+unfoldable pub Stand : Layout → ℕ → List Item → Rest → Rest → Type 0
+Stand l done [] r s = r ≡ s
+Stand l done (i ∷ items) r s = (mid : Rest) × (item_in l done r ≡ Ok (i, mid)) × Stand l (done + 1) items mid s
 
 -- the counts, and the vertices and faces behind them
 abbrev pub laid : Layout → Rest → Reading
@@ -49,9 +47,6 @@ end_size (c ∷ cs) = if c == 10 then 1 else 2
 abbrev pub behind_line : Line → Rest → Rest
 behind_line l r = forward (length l.bytes + end_size (drop (length l.bytes) r.bytes)) r
 
-abbrev pub texts : Line → List (List ℕ)
-texts l = words_of l.bytes
-
 -- the reading with what a line declares, or its fault
 abbrev pub declared : Result Header MeshFault → (Header → Reading) → Reading
 declared (Ok h) more = more h
@@ -61,8 +56,8 @@ declared (Err fault) more = fault_alone fault
 unfoldable pub from_header : MeshFault → List Line → Header → Rest → Reading
 from_header end [] h r = fault_alone end
 from_header end (l ∷ ls) h r =
-    if ends h (texts l) then counted (layout_of h l.at (texts l)) (behind_line l r)
-    else declared (header_after h l.at (texts l)) (λ next. from_header end ls next (behind_line l r))
+    if ends h (texts_of l) then counted (layout_of h l.at (texts_of l)) (behind_line l r)
+    else declared (header_after h l.at (texts_of l)) (λ next. from_header end ls next (behind_line l r))
 
 -- whether a line has the one word ply
 abbrev pub is_first : List (List ℕ) → Bool
@@ -73,16 +68,8 @@ is_first words = false
 unfoldable pub from_first : MeshFault → List Line → Rest → Reading
 from_first end [] r = fault_alone end
 from_first end (l ∷ ls) r =
-    if is_first (texts l) then from_header end ls nothing_declared (behind_line l r)
+    if is_first (texts_of l) then from_header end ls nothing_declared (behind_line l r)
     else fault_alone (Text l.at Head)
-
--- the fault that stands behind the lines of a source of so many bytes
-abbrev pub end_fault : ℕ → Option LineFault → MeshFault
-end_fault size None = Text size Cut
-end_fault size (Some line.Read) = Read
-end_fault size (Some (line.TooLong at)) = TooMany LineBytes too_many_line_bytes
-end_fault size (Some (line.Bytes taken)) = TooMany MeshBytes most_mesh_bytes
-end_fault size (Some line.Memory) = Memory
 
 -- what all bytes of a source say, by its lines
 abbrev pub mesh_of : List ℕ → Flow → Reading

@@ -1,5 +1,5 @@
 -- How far a PLY file was read, what was given, and what is left.
-use Rattle.std.specs.Prelude.{◌≡◌, ℕ, ◌+◌, ◌-◌, ◌≤◌, ◌<◌, false, min, List, [], length, Option, Some, None, ⊤}
+use Rattle.std.specs.Prelude.{◌≡◌, ℕ, ◌+◌, ◌-◌, ◌≤◌, ◌<◌, false, List, [], length, Option, Some, None, ⊤}
 use Rattle.std.specs.Option.{option_map}
 use Rattle.fault_counts.specs.Told.{Told}
 use Rattle.mesh_data.specs.declared.items.MeshFault.{MeshFault}
@@ -8,12 +8,14 @@ use Rattle.mesh_data.specs.Reading.{Reading, Given, behind, fault_alone, nothing
 use Rattle.mesh_data.specs.declared.items.Item.{Item}
 use Rattle.oemm_lines.specs.declared.parts.Line.{Line}
 use Rattle.oemm_lines.specs.Stream.{Stream, left_of, flow_of}
+use Rattle.mesh_reading.specs.Faults.{end_fault}
+use Rattle.mesh_reading.specs.Progress.{MayFollow, given_by}
 use Rattle.ply_reader.specs.declared.layout.Layout.{Layout}
 use Rattle.ply_reader.specs.declared.layout.Header.{Header}
 use Rattle.ply_reader.specs.Limits.{IsLaidOut}
 use Rattle.ply_reader.specs.Body.{Rest}
-use Rattle.ply_reader.specs.Feed.{Feed, IsOpen, MayFollow, rest_left}
-use Rattle.ply_reader.specs.Mesh.{end_fault, from_first, from_header, items_of}
+use Rattle.ply_reader.specs.Feed.{Feed, IsOpen, rest_left}
+use Rattle.ply_reader.specs.Mesh.{from_first, from_header, items_of}
 
 -- the same for whatever is left
 abbrev pub only : {A B : Type 0} → B → A → B
@@ -70,10 +72,6 @@ Ends old Memory left = ⊤
 Ends old (Text at why) left = old ≡ option_map (only_fault (Text at why)) left
 Ends old (TooMany what count) left = old ≡ option_map (only_fault (TooMany what count)) left
 
--- a stream of which no line was read yet
-abbrev pub IsFresh : {S : Type 0} → Stream S → Type 0
-IsFresh s = (s.ahead ≡ []) × (s.at ≡ 0) × (s.number ≡ 1) × (s.fault ≡ None) × (s.budget ≡ 8589934592) × (s.comments ≡ false)
-
 -- the lines of a header may come next
 abbrev pub HasLines : {S : Type 0} → Feed S → Type 0
 HasLines f = IsOpen f × (f.ahead ≡ []) × (f.stream.comments ≡ false)
@@ -85,13 +83,12 @@ pub record Progress (S : Type 0) : Type 0 where
   pub done : ℕ
   pub fault : Option MeshFault
 
-abbrev pub given_by : Option Layout → ℕ → Option MeshFault → Given
-given_by None done fault = record { counts = None; vertices = 0; faces = 0; fault = fault }
-given_by (Some l) done fault =
-    record { counts = Some (l.vertex.count, l.face.count); vertices = min done l.vertex.count; faces = done - l.vertex.count; fault = fault }
+-- how many vertices and how many faces the records are
+abbrev pub counts_of : Layout → ℕ × ℕ
+counts_of l = (l.vertex.count, l.face.count)
 
 abbrev pub given_of : {S : Type 0} → Progress S → Given
-given_of p = given_by p.layout p.done p.fault
+given_of p = given_by (option_map counts_of p.layout) p.done p.fault
 
 -- what is left to read, by the layout once it was read
 abbrev pub reading_by : {S : Type 0} → (S → Told) → Option Layout → ℕ → Feed S → Option Reading

@@ -3,17 +3,18 @@
 ghost use Rattle.std.specs.Prelude.{◌≡◌, ◌+◌, ◌≤◌, ◌<◌, Some, IfOk, IfSome, OnOk, IsErrOf};
 ghost use Rattle.fault_counts.specs.Counts.{Rose};
 ghost use Rattle.mesh_data.specs.Reading.{most_items};
+ghost use Rattle.mesh_reading.specs.Progress.{MayFollow};
 ghost use Rattle.ply_reader.specs.Body as grammar;
 ghost use Rattle.ply_reader.specs.Feed as feeds;
-ghost use Rattle.ply_reader.specs.Feed.{rest_left, Finds, IsOpen, MayFollow, Passes};
+ghost use Rattle.ply_reader.specs.Feed.{rest_left, Finds, IsOpen, Passes};
 
-use super::faults::fault_at;
 use super::feed::Feed;
-use super::layout::{Element, Layout, Order, Property};
+use super::layout::{ByteOrder, Element, Layout, Property};
 use super::names::size_of;
 use super::record::properties_in;
 use super::values::Record;
 use mesh_data::{Item, MeshFault, MeshWhy};
+use mesh_reading::fault_at;
 use oemm_io::Source;
 
 /// How many bytes the properties have, where each of them is a number.
@@ -34,7 +35,7 @@ fn fixed_size(properties: &[Property]) -> Option<u64>
 #[tactic(auto, unfolding(crate::specs::Body::record_passed))]
 fn record_passed<S: Source>(
     feed: &mut Feed<S>,
-    order: Order,
+    order: ByteOrder,
     properties: &[Property],
 ) -> Result<(), MeshFault>
     requires { IsOpen feed.old }
@@ -56,7 +57,7 @@ fn record_passed<S: Source>(
 /// Passes over so many records with these properties, one by one.
 fn each_record_passed<S: Source>(
     feed: &mut Feed<S>,
-    order: Order,
+    order: ByteOrder,
     properties: &[Property],
     count: u64,
 ) -> Result<(), MeshFault>
@@ -75,7 +76,7 @@ fn each_record_passed<S: Source>(
 /// Passes over the records of an element.
 fn records_passed<S: Source>(
     feed: &mut Feed<S>,
-    order: Order,
+    order: ByteOrder,
     element: &Element,
 ) -> Result<(), MeshFault>
     requires { IsOpen feed.old }
@@ -94,7 +95,7 @@ fn records_passed<S: Source>(
 /// Passes over elements.
 fn elements_passed<S: Source>(
     feed: &mut Feed<S>,
-    order: Order,
+    order: ByteOrder,
     elements: &[Element],
 ) -> Result<(), MeshFault>
     requires { IsOpen feed.old }
@@ -113,7 +114,7 @@ fn elements_passed<S: Source>(
 fn passed_if<S: Source>(
     feed: &mut Feed<S>,
     here: bool,
-    order: Order,
+    order: ByteOrder,
     elements: &[Element],
 ) -> Result<(), MeshFault>
     requires { IsOpen feed.old }

@@ -1,21 +1,18 @@
 //! The lines of a header that declare an element.
 
 ghost use Rattle.std.specs.Prelude.{◌≡◌, ◌∷◌, ◌++◌, [], IfOk, IfErr};
-ghost use Rattle.oemm_lines.specs.Words.{words_of};
-ghost use Rattle.ply_reader.specs.Results.{Answers, IsOfText};
+ghost use Rattle.mesh_reading.specs.Results.{IsOfText};
+ghost use Rattle.ply_reader.specs.Results.{Answers};
 ghost use Rattle.ply_reader.specs.Header as grammar;
 ghost use Rattle.ply_reader.specs.Limits.{HasFew, IsLimited, IsStored};
 
-use super::faults::fault_at;
 use super::layout::{Element, Header, Properties, Role};
 use super::names::role_named;
-use super::properties::at_line_end;
+use super::properties::{at_line_end, next_word};
 use mesh_data::{List, MeshFault, MeshWhy, What};
-use oemm_lines::{next_word, whole};
+use mesh_reading::{MOST_ITEMS, fault_at};
+use oemm_lines::{WordsLeft, whole};
 use std::alloc::Global;
-
-/// The greatest count of vertices and of faces.
-const MOST_ITEMS: u64 = 1 << 24;
 
 /// The list with an item more.
 pub fn pushed<T: Drop>(mut list: List<T>, item: T) -> Result<List<T>, MeshFault>
@@ -152,16 +149,14 @@ fn count_of(at: u64, role: Role, word: &[u8]) -> Result<u64, MeshFault>
 }
 
 /// The count of records, behind which no further word stands.
-fn last_count_of(at: u64, role: Role, text: &[u8]) -> Result<u64, MeshFault>
-    ensures exact { result ≡ grammar.last_count_of at role (words_of text.now) }
+fn last_count_of(at: u64, role: Role, mut words: WordsLeft<'_>) -> Result<u64, MeshFault>
+    ensures exact { result ≡ grammar.last_count_of at role words.entry }
     ensures few { IfOk result (HasFew role) }
     ensures fault { IfErr result IsOfText }
 {
-    let Some((word, rest)) = next_word(text) else {
-        return Err(fault_at(at, MeshWhy::HeadLine));
-    };
+    let word = next_word(at, &mut words)?;
     let count = count_of(at, role, word)?;
-    at_line_end(at, count, rest)
+    at_line_end(at, count, words)
 }
 
 /// The header with a further element, by the words behind the first of its line.
@@ -170,21 +165,19 @@ pub fn with_element(
     alloc: Global,
     header: Header,
     at: u64,
-    text: &[u8],
+    mut words: WordsLeft<'_>,
 ) -> Result<Header, MeshFault>
     requires { IsLimited header }
-    ensures answers { Answers (grammar.with_element header at (words_of text.now)) result }
+    ensures answers { Answers (grammar.with_element header at words.entry) result }
     ensures few { IfOk result IsLimited }
 {
-    let Some((name, rest)) = next_word(text) else {
-        return Err(fault_at(at, MeshWhy::HeadLine));
-    };
+    let name = next_word(at, &mut words)?;
     let role = role_named(name);
     let header = closed(header)?;
     if let Some(why) = role_fault(role, &header) {
         return Err(fault_at(at, why));
     }
-    let count = last_count_of(at, role, rest)?;
+    let count = last_count_of(at, role, words)?;
     let properties = Properties::new(alloc);
     Ok(Header {
         last: Some(Element {

@@ -1,13 +1,12 @@
 //! The bytes behind a header.
 
-ghost use Rattle.std.specs.Prelude.{◌≡◌, ◌⊎◌, ◌+◌, ◌-◌, ◌<◌, ◌≤◌, length, take, slice_range, IfOk, OnOk, IsErrOf};
+ghost use Rattle.std.specs.Prelude.{◌≡◌, ◌+◌, ◌-◌, ◌<◌, ◌≤◌, length, take, slice_range, IfErr, IfOk, OnOk, IsErrOf};
 ghost use Rattle.fault_counts.specs.Counts.{Rose};
 ghost use Rattle.fault_counts.specs.Told.{Takes};
 ghost use Rattle.oemm_lines.specs.Stream.{left_of, IsDrained};
-ghost use Rattle.ply_reader.specs.Feed.{fault_at_limit};
 
-use super::faults::{MOST_MESH_BYTES, fault_at, fault_of_lines, too_many_bytes};
 use mesh_data::{MeshFault, MeshWhy};
+use mesh_reading::{MOST_MESH_BYTES, fault_at, fault_of_lines};
 use oemm_io::Source;
 use oemm_lines::{Line, LineFault, Lines};
 use std::marker::Model;
@@ -46,7 +45,7 @@ fn moved_to_front(buffer: &mut [u8], from: usize, to: usize) -> usize
     to - from
 }
 
-/// Takes so many raw bytes into a buffer from a place on, and answers how many there were.
+/// Takes so many raw bytes within the budget into a buffer from a place on, and answers how many there were.
 fn raw_into<S: Source>(
     lines: &mut Lines<S>,
     buffer: &mut [u8],
@@ -55,6 +54,7 @@ fn raw_into<S: Source>(
 ) -> Result<usize, LineFault>
     requires calm { lines.old.fault ≡ None }
     requires within { at + size ≤ length buffer.old }
+    requires room { lines.old.at + size ≤ lines.old.budget }
     ensures front { take at buffer.new ≡ take at buffer.old }
     ensures calm { OnOk result (lines.new.fault ≡ None) }
     ensures size { IfOk result (λ n. n ≤ size) }
@@ -64,31 +64,11 @@ fn raw_into<S: Source>(
     ensures place { IfOk result (λ n. lines.new.at ≡ lines.old.at + n) }
     ensures limit { OnOk result (lines.new.at ≤ lines.old.budget) }
     ensures budget { lines.new.budget ≡ lines.old.budget }
+    ensures fault { IfErr result (λ fault. fault ≡ LineFault.Read) }
     ensures kept { S.faults lines.old.source ≤ S.faults lines.new.source }
     ensures read { IsErrOf result LineFault.Read → Rose (S.faults lines.old.source) (S.faults lines.new.source) }
 {
     lines.raw(&mut buffer[at..at + size])
-}
-
-/// The fault of raw bytes. They all lie within the limit, so that the source failed or memory is wanting.
-fn fault_of_raw(fault: LineFault) -> MeshFault
-    ensures read { (result ≡ MeshFault.Read) × (fault ≡ LineFault.Read) ⊎ (result ≡ MeshFault.Memory) }
-{
-    match fault {
-        LineFault::Read => MeshFault::Read,
-        _ => MeshFault::Memory,
-    }
-}
-
-/// The fault of a line that would begin at the limit.
-fn fault_at_limit(fault: LineFault) -> MeshFault
-    ensures { result ≡ fault_at_limit fault }
-{
-    match fault {
-        LineFault::Bytes { .. } => too_many_bytes(),
-        LineFault::Read => MeshFault::Read,
-        _ => MeshFault::Memory,
-    }
 }
 
 impl<S> Feed<S> {
@@ -186,7 +166,7 @@ impl<S: Source> Feed<S> {
         ensures read { IsErrOf result MeshFault.Read → Rose (S.faults self.old.stream.source) (S.faults self.new.stream.source) }
     {
         if let Err(fault) = self.lines.next() {
-            return Err(fault_at_limit(fault));
+            return Err(fault_of_lines(fault));
         }
         Ok(())
     }
@@ -219,7 +199,7 @@ impl<S: Source> Feed<S> {
             }
             Err(fault) => {
                 self.to = 0;
-                Err(fault_of_raw(fault))
+                Err(fault_of_lines(fault))
             }
         }
     }

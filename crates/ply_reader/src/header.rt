@@ -1,18 +1,18 @@
 //! The lines of a header.
 
-ghost use Rattle.std.specs.Prelude.{◌≡◌, IfOk, IfErr};
-ghost use Rattle.oemm_lines.specs.Words.{words_of};
-ghost use Rattle.ply_reader.specs.Results.{Answers, IsOfText};
+ghost use Rattle.std.specs.Prelude.{◌≡◌, ◌∷◌, IfOk, IfErr};
+ghost use Rattle.mesh_reading.specs.Results.{IsOfText};
+ghost use Rattle.ply_reader.specs.Results.{Answers};
 ghost use Rattle.ply_reader.specs.Header as grammar;
 ghost use Rattle.ply_reader.specs.Limits.{IsLaidOut, IsLimited};
 
 use super::elements::{closed, pushed, with_element};
-use super::faults::fault_at;
-use super::layout::{Axis, Element, Elements, Header, Layout, Order, Property};
+use super::layout::{Axis, ByteOrder, Element, Elements, Header, Layout, Property};
 use super::names::is_either;
-use super::properties::{at_line_end, has_axis, has_corners, property_of};
+use super::properties::{at_line_end, has_axis, has_corners, next_word, property_of};
 use mesh_data::{ElementKind, MeshFault, MeshWhy};
-use oemm_lines::next_word;
+use mesh_reading::fault_at;
+use oemm_lines::WordsLeft;
 use std::alloc::Global;
 
 /// Nothing was declared yet.
@@ -32,15 +32,15 @@ pub fn nothing_declared(alloc: Global) -> Header
 
 /// The order that the words of the format say.
 #[tactic(auto, unfolding(crate::specs::Header::order_of))]
-fn order_of(at: u64, name: &[u8]) -> Result<Order, MeshFault>
+fn order_of(at: u64, name: &[u8]) -> Result<ByteOrder, MeshFault>
     ensures exact { result ≡ grammar.order_of at name.now }
     ensures fault { IfErr result IsOfText }
 {
     if name == b"binary_little_endian".as_slice() {
-        return Ok(Order::Little);
+        return Ok(ByteOrder::Little);
     }
     if name == b"binary_big_endian".as_slice() {
-        return Ok(Order::Big);
+        return Ok(ByteOrder::Big);
     }
     if name == b"ascii".as_slice() {
         return Err(fault_at(at, MeshWhy::Ascii));
@@ -49,21 +49,17 @@ fn order_of(at: u64, name: &[u8]) -> Result<Order, MeshFault>
 }
 
 /// The order of a line of the format.
-fn format_of(at: u64, text: &[u8]) -> Result<Order, MeshFault>
-    ensures exact { result ≡ grammar.format_of at (words_of text.now) }
+fn format_of(at: u64, first: &[u8], mut words: WordsLeft<'_>) -> Result<ByteOrder, MeshFault>
+    ensures exact { result ≡ grammar.format_of at (first.now ∷ words.entry) }
     ensures fault { IfErr result IsOfText }
 {
-    let fault = fault_at(at, MeshWhy::HeadLine);
-    let (first, rest) = next_word(text).ok_or(fault)?;
-    let (name, rest) = next_word(rest).ok_or(fault)?;
-    let (version, rest) = next_word(rest).ok_or(fault)?;
-    if next_word(rest).is_some() {
-        return Err(fault);
-    }
+    let name = next_word(at, &mut words)?;
+    let version = next_word(at, &mut words)?;
+    at_line_end(at, (), words)?;
     if first == b"format".as_slice() && version == b"1.0".as_slice() {
         return order_of(at, name);
     }
-    Err(fault)
+    Err(fault_at(at, MeshWhy::HeadLine))
 }
 
 /// The element with a property more.
@@ -86,15 +82,15 @@ fn with_last(element: Element, property: Property) -> Result<Element, MeshFault>
 
 /// The header with a further property of its last element.
 #[tactic(auto, using(crate::proofs::ResultLaws::answers_exact), unfolding(crate::specs::Header::with_property))]
-fn with_property(mut header: Header, at: u64, text: &[u8]) -> Result<Header, MeshFault>
+fn with_property(mut header: Header, at: u64, words: WordsLeft<'_>) -> Result<Header, MeshFault>
     requires { IsLimited header }
-    ensures answers { Answers (grammar.with_property header at (words_of text.now)) result }
+    ensures answers { Answers (grammar.with_property header at words.entry) result }
     ensures few { IfOk result IsLimited }
 {
     let Some(element) = header.last.take() else {
         return Err(fault_at(at, MeshWhy::HeadLine));
     };
-    let property = property_of(at, &element, text)?;
+    let property = property_of(at, &element, words)?;
     let element = with_last(element, property)?;
     Ok(Header {
         last: Some(element),
@@ -109,17 +105,17 @@ fn declared_by(
     header: Header,
     at: u64,
     word: &[u8],
-    rest: &[u8],
+    words: WordsLeft<'_>,
 ) -> Result<Header, MeshFault>
     requires { IsLimited header }
-    ensures answers { Answers (grammar.declared_by header at word.now (words_of rest.now)) result }
+    ensures answers { Answers (grammar.declared_by header at word.now words.entry) result }
     ensures few { IfOk result IsLimited }
 {
     if word == b"element".as_slice() {
-        return with_element(alloc, header, at, rest);
+        return with_element(alloc, header, at, words);
     }
     if word == b"property".as_slice() {
-        return with_property(header, at, rest);
+        return with_property(header, at, words);
     }
     Err(fault_at(at, MeshWhy::HeadLine))
 }
@@ -130,34 +126,34 @@ pub fn header_after(
     alloc: Global,
     header: Header,
     at: u64,
-    text: &[u8],
+    mut words: WordsLeft<'_>,
 ) -> Result<Header, MeshFault>
     requires { IsLimited header }
-    ensures answers { Answers (grammar.header_after header at (words_of text.now)) result }
+    ensures answers { Answers (grammar.header_after header at words.entry) result }
     ensures few { IfOk result IsLimited }
 {
-    let Some((word, rest)) = next_word(text) else {
+    let Some(word) = words.next() else {
         return Ok(header);
     };
     if is_either(word, b"comment", b"obj_info") {
         return Ok(header);
     }
     if header.order.is_none() {
-        let order = format_of(at, text)?;
+        let order = format_of(at, word, words)?;
         return Ok(Header {
             order: Some(order),
             ..header
         });
     }
-    declared_by(alloc, header, at, word, rest)
+    declared_by(alloc, header, at, word, words)
 }
 
 /// Whether the line ends the header.
-pub fn ends(header: &Header, text: &[u8]) -> bool
-    ensures { result ≡ grammar.ends header.now (words_of text.now) }
+pub fn ends(header: &Header, mut words: WordsLeft<'_>) -> bool
+    ensures { result ≡ grammar.ends header.now words.entry }
 {
-    match next_word(text) {
-        Some((word, _)) => header.order.is_some() && word == b"end_header".as_slice(),
+    match words.next() {
+        Some(word) => header.order.is_some() && word == b"end_header".as_slice(),
         None => false,
     }
 }
@@ -180,13 +176,6 @@ fn missing(vertex: &[Property], face: &[Property]) -> Option<MeshWhy>
     }
 }
 
-/// The fault of a header that ends without this element.
-fn no_element(at: u64, which: ElementKind) -> MeshFault
-    ensures { result ≡ MeshFault.Text at (MeshWhy.NoElement which) }
-{
-    fault_at(at, MeshWhy::NoElement { which })
-}
-
 /// The layout that a header declares, of which no element is open.
 #[tactic(auto, unfolding(crate::specs::Header::laid_out))]
 fn laid_out(at: u64, header: Header) -> Result<Layout, MeshFault>
@@ -196,8 +185,14 @@ fn laid_out(at: u64, header: Header) -> Result<Layout, MeshFault>
     ensures fault { IfErr result IsOfText }
 {
     let order = header.order.ok_or(fault_at(at, MeshWhy::HeadLine))?;
-    let vertex = header.vertex.ok_or(no_element(at, ElementKind::Vertex))?;
-    let face = header.face.ok_or(no_element(at, ElementKind::Face))?;
+    let no_vertex = MeshWhy::NoElement {
+        which: ElementKind::Vertex,
+    };
+    let no_face = MeshWhy::NoElement {
+        which: ElementKind::Face,
+    };
+    let vertex = header.vertex.ok_or(fault_at(at, no_vertex))?;
+    let face = header.face.ok_or(fault_at(at, no_face))?;
     if let Some(why) = missing(vertex.properties.slice(), face.properties.slice()) {
         return Err(fault_at(at, why));
     }
@@ -212,15 +207,13 @@ fn laid_out(at: u64, header: Header) -> Result<Layout, MeshFault>
 
 /// The layout at the line that ends the header.
 #[tactic(auto, using(crate::proofs::ResultLaws::answers_exact))]
-pub fn layout_of(header: Header, at: u64, text: &[u8]) -> Result<Layout, MeshFault>
+pub fn layout_of(header: Header, at: u64, mut words: WordsLeft<'_>) -> Result<Layout, MeshFault>
     requires { IsLimited header }
-    ensures answers { Answers (grammar.layout_of header at (words_of text.now)) result }
+    ensures answers { Answers (grammar.layout_of header at words.entry) result }
     ensures few { IfOk result IsLaidOut }
 {
-    let Some((_, rest)) = next_word(text) else {
-        return Err(fault_at(at, MeshWhy::HeadLine));
-    };
+    next_word(at, &mut words)?;
     let header = closed(header)?;
     let layout = laid_out(at, header)?;
-    at_line_end(at, layout, rest)
+    at_line_end(at, layout, words)
 }

@@ -3,8 +3,8 @@
 use mesh_data::List;
 
 /// In which order the bytes of a number stand.
-#[derive(Clone, Copy, Debug, PartialEq, Eq)]
-pub enum Order {
+#[derive(Clone, Copy)]
+pub enum ByteOrder {
     /// The least first.
     Little,
     /// The greatest first.
@@ -12,8 +12,8 @@ pub enum Order {
 }
 
 /// A type of numbers: whole ones with and without a sign, and floating-point ones, by their bits.
-#[derive(Clone, Copy, Debug, PartialEq, Eq)]
-pub enum Number {
+#[derive(Clone, Copy)]
+pub enum ScalarType {
     I8,
     U8,
     I16,
@@ -25,14 +25,14 @@ pub enum Number {
 }
 
 /// A number, or a list by the type of its count and that of its items.
-#[derive(Clone, Copy, Debug, PartialEq, Eq)]
-pub enum Form {
-    Plain(Number),
-    Listed { count: Number, item: Number },
+#[derive(Clone, Copy)]
+pub enum PropertyType {
+    Scalar(ScalarType),
+    List { count: ScalarType, item: ScalarType },
 }
 
 /// A direction of the grid.
-#[derive(Clone, Copy, Debug, PartialEq, Eq)]
+#[derive(Clone, Copy)]
 pub enum Axis {
     X,
     Y,
@@ -40,23 +40,23 @@ pub enum Axis {
 }
 
 /// What stands at one place of each record of an element.
-#[derive(Clone, Copy, Debug, PartialEq, Eq)]
+#[derive(Clone, Copy)]
 pub enum Property {
     /// A coordinate of a vertex.
-    Coordinate { axis: Axis, number: Number },
+    Coordinate { axis: Axis, number: ScalarType },
     /// The indices of a face: how many they are, and each of them.
-    Corners { count: Number, item: Number },
+    Corners { count: ScalarType, item: ScalarType },
     /// A number that isn't looked at.
-    Single(Number),
+    Single(ScalarType),
     /// A list of which only the length is looked at.
-    Many { count: Number, item: Number },
+    Many { count: ScalarType, item: ScalarType },
 }
 
 /// The properties of a record, in their order.
 pub type Properties = List<Property>;
 
 /// What the records of an element are.
-#[derive(Clone, Copy, Debug, PartialEq, Eq)]
+#[derive(Clone, Copy)]
 pub enum Role {
     Vertices,
     Faces,
@@ -78,7 +78,7 @@ pub type Elements = List<Element>;
 /// What stands behind the header, up to the last face.
 #[derive(Drop)]
 pub struct Layout {
-    pub order: Order,
+    pub order: ByteOrder,
     /// The foreign elements in front of the vertices.
     pub before: Elements,
     pub vertex: Element,
@@ -91,7 +91,7 @@ pub struct Layout {
 #[derive(Drop)]
 pub struct Header {
     /// The order, once the line of the format was read.
-    pub order: Option<Order>,
+    pub order: Option<ByteOrder>,
     pub before: Elements,
     pub vertex: Option<Element>,
     pub between: Elements,

@@ -6,10 +6,10 @@ ghost use Rattle.std.specs.Str.{bytes_eq};
 
 mod body;
 mod elements;
-mod faults;
 mod feed;
 mod header;
 mod items;
+mod laws;
 mod layout;
 mod names;
 mod numbers;
@@ -21,6 +21,7 @@ mod start;
 mod tests;
 mod values;
 
+pub use laws::{ply_body_laws, ply_header_laws};
 pub use reader::PlyReader;
 
 /// Whether the first three bytes of a file are `ply`.

@@ -4,25 +4,25 @@ ghost use Rattle.std.specs.Prelude.{◌≡◌};
 ghost use Rattle.ply_reader.specs.Layout as layout;
 ghost use Rattle.ply_reader.specs.Header as grammar;
 
-use super::layout::{Axis, Number, Role};
+use super::layout::{Axis, Role, ScalarType};
 
 /// How many bytes a number has.
-pub fn size_of(number: Number) -> usize
+pub fn size_of(number: ScalarType) -> usize
     ensures { result ≡ layout.size_of number }
 {
     match number {
-        Number::I8 | Number::U8 => 1,
-        Number::I16 | Number::U16 => 2,
-        Number::I32 | Number::U32 | Number::F32 => 4,
-        Number::F64 => 8,
+        ScalarType::I8 | ScalarType::U8 => 1,
+        ScalarType::I16 | ScalarType::U16 => 2,
+        ScalarType::I32 | ScalarType::U32 | ScalarType::F32 => 4,
+        ScalarType::F64 => 8,
     }
 }
 
 /// Whether the type is one of floating-point numbers.
-pub fn is_float(number: Number) -> bool
+pub fn is_float(number: ScalarType) -> bool
     ensures { result ≡ layout.is_float number }
 {
-    matches!(number, Number::F32 | Number::F64)
+    matches!(number, ScalarType::F32 | ScalarType::F64)
 }
 
 /// Whether the word is one of two.
@@ -33,26 +33,26 @@ pub fn is_either(word: &[u8], a: &[u8], b: &[u8]) -> bool
 }
 
 /// The type that a word names.
-#[tactic(auto, unfolding(crate::specs::Layout::number_named))]
-pub fn number_named(word: &[u8]) -> Option<Number>
-    ensures { result ≡ layout.number_named word.now }
+#[tactic(auto, unfolding(crate::specs::Layout::scalar_named))]
+pub fn scalar_named(word: &[u8]) -> Option<ScalarType>
+    ensures { result ≡ layout.scalar_named word.now }
 {
     if is_either(word, b"char", b"int8") {
-        Some(Number::I8)
+        Some(ScalarType::I8)
     } else if is_either(word, b"uchar", b"uint8") {
-        Some(Number::U8)
+        Some(ScalarType::U8)
     } else if is_either(word, b"short", b"int16") {
-        Some(Number::I16)
+        Some(ScalarType::I16)
     } else if is_either(word, b"ushort", b"uint16") {
-        Some(Number::U16)
+        Some(ScalarType::U16)
     } else if is_either(word, b"int", b"int32") {
-        Some(Number::I32)
+        Some(ScalarType::I32)
     } else if is_either(word, b"uint", b"uint32") {
-        Some(Number::U32)
+        Some(ScalarType::U32)
     } else if is_either(word, b"float", b"float32") {
-        Some(Number::F32)
+        Some(ScalarType::F32)
     } else if is_either(word, b"double", b"float64") {
-        Some(Number::F64)
+        Some(ScalarType::F64)
     } else {
         None
     }

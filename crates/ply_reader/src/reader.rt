@@ -1,3 +1,5 @@
+//! A reader of a mesh.
+
 use super::feed::Feed;
 use super::items::item_after;
 use super::layout::Layout;
@@ -32,17 +34,18 @@ impl<S> Model for PlyReader<S> {
 }
 
 impl<S: Source> PlyReader<S> {
-    ghost use Rattle.std.specs.Prelude.{◌≡◌, ◌⊎◌, ◌≤◌, None, Err, IfErr, IsErrOf};
+    ghost use Rattle.std.specs.Prelude.{◌≡◌, ◌≤◌, false, None, IsErrOf};
     ghost use Rattle.std.specs.Option.{option_map};
     ghost use Rattle.fault_counts.specs.Counts.{Rose};
     ghost use Rattle.mesh_data.specs.Reading.{nothing_given, Steps, Reads};
-    ghost use Rattle.oemm_lines.specs.Stream.{left_of};
+    ghost use Rattle.mesh_reading.specs.Faults.{most_mesh_bytes};
+    ghost use Rattle.oemm_lines.specs.Stream.{fresh_stream};
     ghost use Rattle.ply_reader.specs.Mesh.{ply_reading};
-    ghost use Rattle.ply_reader.specs.Reader.{given_of, reading_of, source_of, Ends, IsFresh};
+    ghost use Rattle.ply_reader.specs.Reader.{given_of, reading_of, source_of};
 
     /// A reader of all that the source says. No line was read yet, the budget is 2^33 bytes, and there are no comments.
     pub fn new(lines: Lines<S>) -> PlyReader<S>
-        requires { IsFresh lines }
+        requires { lines ≡ fresh_stream most_mesh_bytes false lines.source }
         ensures source { source_of result ≡ lines.source }
         ensures given { given_of result ≡ nothing_given }
         ensures reading { reading_of S.left result ≡ option_map ply_reading (S.left lines.source) }
@@ -88,9 +91,9 @@ impl<S: Source> PlyReader<S> {
 }
 
 impl<S: Source> Items for PlyReader<S> {
-    ghost use Rattle.std.specs.Prelude.{◌≡◌, ◌⊎◌, ◌≤◌, Some, Err, IsErrOf};
+    ghost use Rattle.std.specs.Prelude.{◌≡◌, ◌⊎◌, ◌≤◌, None, Some, Ok, Err, IfSome};
     ghost use Rattle.fault_counts.specs.Counts.{Rose};
-    ghost use Rattle.mesh_data.specs.Reading.{Steps, Reads};
+    ghost use Rattle.mesh_data.specs.Reading.{IsComplete, Steps, Reads};
     ghost use Rattle.ply_reader.specs.Reader.{given_of, reading_of, source_of};
 
     ghost given = { λ a. given_of a };
@@ -99,7 +102,19 @@ impl<S: Source> Items for PlyReader<S> {
 
     ghost faults = { λ a. S.faults (source_of a) };
 
-    fn next(&mut self) -> Result<Option<Item>, MeshFault> {
+    /// The next item, or None behind the last face.
+    ///
+    /// # Errors
+    /// The first fault of the mesh. Once a fault was answered, each later call answers it again. Neither then nor
+    /// behind the last face anything is asked of the source.
+    fn next(&mut self) -> Result<Option<Item>, MeshFault>
+        ensures given { Steps (given_of self.old) result (given_of self.new) }
+        ensures told { Reads (reading_of S.left self.old) result (reading_of S.left self.new) }
+        ensures kept { S.faults (source_of self.old) ≤ S.faults (source_of self.new) }
+        ensures read { result ≡ Err MeshFault.Read → ((given_of self.old).fault ≡ Some MeshFault.Read) ⊎ Rose (S.faults (source_of self.old)) (S.faults (source_of self.new)) }
+        ensures end { self.old.fault ≡ None → IsComplete (given_of self.old) → (result ≡ Ok None) × (self.new ≡ self.old) }
+        ensures again { IfSome self.old.fault (λ fault. (result ≡ Err fault) × (self.new ≡ self.old)) }
+    {
         if let Some(fault) = self.fault {
             return Err(fault);
         }

@@ -3,18 +3,18 @@
 ghost use Rattle.std.specs.Prelude.{◌≡◌, ◌≤◌, ◌<◌, ◌+◌, ◌*◌, drop, length, Some, IfErr, IfOk, IfSome, OnOk, IsErrOf};
 ghost use Rattle.fault_counts.specs.Counts.{Rose};
 ghost use Rattle.mesh_data.specs.Triangles.{IsProper, IsBelow};
-ghost use Rattle.ply_reader.specs.Results.{IsOfText};
+ghost use Rattle.mesh_reading.specs.Results.{IsOfText};
 ghost use Rattle.ply_reader.specs.Layout as layout;
 ghost use Rattle.ply_reader.specs.Body as grammar;
 ghost use Rattle.ply_reader.specs.Feed.{rest_left, Finds, IsFaceBelow, IsOpen, Passes};
 
-use super::faults::fault_at;
 use super::feed::Feed;
-use super::layout::{Axis, Number, Order, Property};
+use super::layout::{Axis, ByteOrder, Property, ScalarType};
 use super::names::size_of;
 use super::numbers::number_of;
 use super::values::{Record, Values};
-use mesh_data::{MeshFault, MeshWhy, Name, Point, Tri};
+use mesh_data::{MeshFault, MeshWhy, Point, Tri};
+use mesh_reading::{fault_at, name_of, triangle_of};
 use oemm_io::Source;
 
 /// Nothing of a record was read yet.
@@ -65,53 +65,17 @@ fn list_count(here: &Record, n: i64) -> Result<u64, MeshFault>
     }
 }
 
-/// The name that an index means among so many vertices, if it is in range.
-fn name_of(vertices: u32, n: i64) -> Option<u32>
-    ensures name { result ≡ grammar.name_of vertices n }
-    ensures below { IfSome result (λ m. m < vertices) }
-{
-    let n = u32::try_from(n).ok()?;
-    (n < vertices).then_some(n)
-}
-
 /// What the index at a place of the bytes means.
-fn index_at(here: &Record, item: Number, bytes: &[u8], from: usize) -> Option<u32>
+fn index_at(here: &Record, item: ScalarType, bytes: &[u8], from: usize) -> Option<u32>
     requires { from + layout.size_of item ≤ length bytes.now }
     ensures name { result ≡ grammar.index_at here.now item (drop from bytes.now) }
     ensures below { IfSome result (λ n. n < here.now.vertices) }
 {
-    name_of(here.vertices, number_of(here.order, item, &bytes[from..]))
-}
-
-/// The triangle that three indices mean.
-#[tactic(auto, unfolding(crate::specs::Body::triangle_of))]
-fn triangle_of(
-    here: &Record,
-    i: Option<u32>,
-    j: Option<u32>,
-    k: Option<u32>,
-) -> Result<Tri, MeshFault>
-    ensures exact { result ≡ grammar.triangle_of here.now i j k }
-    ensures fault { IfErr result IsOfText }
-    ensures proper { IfOk result IsProper }
-    ensures names { IfOk result (λ t. (i ≡ Some t.a) × (j ≡ Some t.b) × (k ≡ Some t.c)) }
-{
-    let face = here.number;
-    let (Some(a), Some(b), Some(c)) = (i, j, k) else {
-        return Err(fault_at(here.at, MeshWhy::BadIndex { face }));
-    };
-    if a == b || b == c || c == a {
-        return Err(fault_at(here.at, MeshWhy::Repeated { face }));
-    }
-    Ok(Tri {
-        a: Name(a),
-        b: Name(b),
-        c: Name(c),
-    })
+    name_of(number_of(here.order, item, &bytes[from..]), here.vertices)
 }
 
 /// The triangle of the three numbers at the front.
-fn triangle_at(here: &Record, item: Number, bytes: &[u8]) -> Result<Tri, MeshFault>
+fn triangle_at(here: &Record, item: ScalarType, bytes: &[u8]) -> Result<Tri, MeshFault>
     requires { 3 * layout.size_of item ≤ length bytes.now }
     ensures exact { result ≡ grammar.triangle_at here.now item bytes.now }
     ensures fault { IfErr result IsOfText }
@@ -122,14 +86,14 @@ fn triangle_at(here: &Record, item: Number, bytes: &[u8]) -> Result<Tri, MeshFau
     let i = index_at(here, item, bytes, 0);
     let j = index_at(here, item, bytes, size);
     let k = index_at(here, item, bytes, 2 * size);
-    triangle_of(here, i, j, k)
+    triangle_of(here.at, here.number, i, j, k)
 }
 
 /// The number at the front.
 pub fn number_in<S: Source>(
     feed: &mut Feed<S>,
-    order: Order,
-    number: Number,
+    order: ByteOrder,
+    number: ScalarType,
 ) -> Result<i64, MeshFault>
     requires { IsOpen feed.old }
     ensures finds { Finds (grammar.number_in order number) (rest_left S.left feed.old) result (rest_left S.left feed.new) }
@@ -145,7 +109,11 @@ pub fn number_in<S: Source>(
 }
 
 /// How many items the list at the front has.
-fn count_in<S: Source>(feed: &mut Feed<S>, here: &Record, count: Number) -> Result<u64, MeshFault>
+fn count_in<S: Source>(
+    feed: &mut Feed<S>,
+    here: &Record,
+    count: ScalarType,
+) -> Result<u64, MeshFault>
     requires { IsOpen feed.old }
     ensures finds { Finds (grammar.count_in here.now count) (rest_left S.left feed.old) result (rest_left S.left feed.new) }
     ensures open { OnOk result (IsOpen feed.new) }
@@ -160,8 +128,8 @@ fn count_in<S: Source>(feed: &mut Feed<S>, here: &Record, count: Number) -> Resu
 fn list_passed<S: Source>(
     feed: &mut Feed<S>,
     here: &Record,
-    count: Number,
-    item: Number,
+    count: ScalarType,
+    item: ScalarType,
 ) -> Result<(), MeshFault>
     requires { IsOpen feed.old }
     ensures passes { Passes (grammar.list_passed here.now count item) (rest_left S.left feed.old) result (rest_left S.left feed.new) }
@@ -175,7 +143,11 @@ fn list_passed<S: Source>(
 
 /// The triangle of the three indices at the front, which are all there before one of them is looked at.
 #[tactic(auto, unfolding(crate::specs::Body::indices_in))]
-fn indices_in<S: Source>(feed: &mut Feed<S>, here: &Record, item: Number) -> Result<Tri, MeshFault>
+fn indices_in<S: Source>(
+    feed: &mut Feed<S>,
+    here: &Record,
+    item: ScalarType,
+) -> Result<Tri, MeshFault>
     requires { IsOpen feed.old }
     ensures finds { Finds (grammar.indices_in here.now item) (rest_left S.left feed.old) result (rest_left S.left feed.new) }
     ensures proper { IfOk result IsProper }
@@ -196,8 +168,8 @@ fn indices_in<S: Source>(feed: &mut Feed<S>, here: &Record, item: Number) -> Res
 fn corners_in<S: Source>(
     feed: &mut Feed<S>,
     here: &Record,
-    count: Number,
-    item: Number,
+    count: ScalarType,
+    item: ScalarType,
 ) -> Result<Tri, MeshFault>
     requires { IsOpen feed.old }
     ensures finds { Finds (grammar.corners_in here.now count item) (rest_left S.left feed.old) result (rest_left S.left feed.new) }
@@ -220,7 +192,7 @@ fn coordinate_in<S: Source>(
     feed: &mut Feed<S>,
     here: &Record,
     axis: Axis,
-    number: Number,
+    number: ScalarType,
     values: Values,
 ) -> Result<Values, MeshFault>
     requires { IsOpen feed.old }

@@ -4,28 +4,27 @@ ghost use Rattle.std.specs.Prelude.{◌≡◌, ◌≤◌, IfErr, IfOk, OnOk, IsE
 ghost use Rattle.std.specs.Option.{option_map};
 ghost use Rattle.fault_counts.specs.Counts.{Rose};
 ghost use Rattle.oemm_lines.specs.Stream.{left_of};
-ghost use Rattle.oemm_lines.specs.Words.{words_of};
 ghost use Rattle.ply_reader.specs.Header as grammar;
 ghost use Rattle.ply_reader.specs.Limits.{IsLaidOut, IsLimited};
 ghost use Rattle.ply_reader.specs.Mesh as mesh;
 ghost use Rattle.ply_reader.specs.Feed.{rest_left, IsOpen};
 ghost use Rattle.ply_reader.specs.Reader.{first_of, header_of, Ends, HasLines};
 
-use super::faults::fault_at;
 use super::feed::Feed;
 use super::header::{ends, header_after, layout_of, nothing_declared};
 use super::layout::{Header, Layout};
 use mesh_data::{MeshFault, MeshWhy};
+use mesh_reading::fault_at;
 use oemm_io::Source;
-use oemm_lines::next_word;
+use oemm_lines::WordsLeft;
 use std::alloc::Global;
 
 /// Whether a line has the one word `ply`.
-fn is_first(text: &[u8]) -> bool
-    ensures { result ≡ mesh.is_first (words_of text.now) }
+fn is_first(mut words: WordsLeft<'_>) -> bool
+    ensures { result ≡ mesh.is_first words.entry }
 {
-    match next_word(text) {
-        Some((word, rest)) => next_word(rest).is_none() && word == b"ply".as_slice(),
+    match words.next() {
+        Some(word) => words.next().is_none() && word == b"ply".as_slice(),
         None => false,
     }
 }
@@ -41,7 +40,7 @@ fn first_line<S: Source>(feed: &mut Feed<S>) -> Result<Global, MeshFault>
     ensures read { IsErrOf result MeshFault.Read → Rose (S.faults feed.old.stream.source) (S.faults feed.new.stream.source) }
 {
     let line = feed.line()?;
-    if !is_first(line.bytes.slice()) {
+    if !is_first(line.words_left()) {
         return Err(fault_at(line.at, MeshWhy::Head));
     }
     let bytes = line.bytes.into_vec();
@@ -66,11 +65,10 @@ fn rest_of_header<S: Source>(
     let mut header = declared;
     loop {
         let line = feed.line()?;
-        let text = line.bytes.slice();
-        if ends(&header, text) {
-            return layout_of(header, line.at, text);
+        if ends(&header, line.words_left()) {
+            return layout_of(header, line.at, line.words_left());
         }
-        header = header_after(alloc, header, line.at, text)?;
+        header = header_after(alloc, header, line.at, line.words_left())?;
     }
 }
 

@@ -1,12 +1,12 @@
 //! What is read of a record.
 
-use super::layout::Order;
+use super::layout::ByteOrder;
 use mesh_data::{Point, Tri};
 
 /// Which record is read.
 #[derive(Clone, Copy)]
 pub struct Record {
-    pub order: Order,
+    pub order: ByteOrder,
     /// How many bytes stand before it.
     pub at: u64,
     /// Its number among the vertices or among the faces, counted from 0.

@@ -5,7 +5,7 @@ use Rattle.oemm_lines.specs.Stream.{flow_of}
 use Rattle.edit_script.specs.declared.held.HeldBytes.{HeldBytes}
 use Rattle.edit_script.specs.Grammar.{tasks_of}
 use Rattle.edit_script.proofs.Readings.{tasks_passed, tasks_read, tasks_fault, tasks_none, script_of_short}
-use Rattle.edit_script.proofs.Flows.{flow_begins, line_told, line_given, none_told, never_read, fault_told}
+use Rattle.edit_script.proofs.Flows.{fresh_flow, begins_there, line_told, line_given, none_told, never_read, fault_told}
 use Rattle.edit_script.proofs.script.script_of_bytes.Goals as goal
 use Rattle.edit_script.proofs.script.script_of_bytes.Goals.{then-not-is_empty+in_ok-read_line, else-not-is_empty}
 
@@ -13,14 +13,14 @@ pub loop-draft-init : goal.loop-draft-init
 loop-draft-init c =
     let l = c.in_ok-lines.lines in
     let h = c.in_ok-lines.ensures in
-    let begins = flow_begins l.comments l.budget l.at l.number l.ahead l.source.left.now c.args.bytes.now l.fault h.bytes.0 h.bytes.1 h.begin.0 h.begin.1 h.form.0 h.form.1 h.begin.2 in
+    let there = begins_there l h.fresh in
     record {
-      tasks = sym (ap (tasks_of []) begins)
+      tasks = sym (ap (tasks_of []) (fresh_flow l l.source.left.now c.args.bytes.now h.fresh h.bytes))
           ∙ ap (λ ts. tasks_of ts (flow_of l (l.ahead ++ l.source.left.now))) (sym c.new-draft.ensures);
-      calm = h.begin.2;
-      budget = h.form.0;
-      place = omega (arith, h.begin.0);
-      count = omega (arith, h.begin.0, h.begin.1);
+      calm = there.2;
+      budget = there.3;
+      place = omega (arith, there.0);
+      count = omega (arith, there.0, there.1);
     }
 
 pub loop-draft-preserved : goal.loop-draft-preserved

@@ -10,9 +10,9 @@ pub returns-then-not-is_first-clause-fault : goal.returns-then-not-is_first-clau
 returns-then-not-is_first-clause-fault g c =
     let is = sym c.is_first.ensures ∙ c.if-not-is_first.true in
     rw c.fault_at.ensures
-    (first_fails g.S.Source.left c.args.feed.now.stream c.in_ok-line.line c.line.new.self.stream c.in_ok-line.ensures.gives (rw c.slice.ensures at is))
+    (first_fails g.S.Source.left c.args.feed.now.stream c.in_ok-line.line c.line.new.self.stream c.in_ok-line.ensures.gives (rw c.words_left.ensures at is))
 
 pub returns-clause-told : goal.returns-clause-told
 returns-clause-told g c =
     let is = sym c.is_first.ensures ∙ c.if-not-is_first.false in
-    first_next g.S.Source.left c.args.feed.now.stream c.in_ok-line.line c.line.new.self.stream c.in_ok-line.ensures.gives (rw c.slice.ensures at is)
+    first_next g.S.Source.left c.args.feed.now.stream c.in_ok-line.line c.line.new.self.stream c.in_ok-line.ensures.gives (rw c.words_left.ensures at is)

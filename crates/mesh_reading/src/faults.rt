@@ -1,16 +1,19 @@
-//! The faults of a mesh.
+//! The faults that lines and limits make.
 
-ghost use Rattle.std.specs.Prelude.{◌≡◌, Some};
-ghost use Rattle.ply_reader.specs.Mesh.{end_fault};
+ghost use Rattle.std.specs.Prelude.{◌≡◌};
+ghost use Rattle.mesh_reading.specs.Faults.{fault_of, most_mesh_bytes};
 
 use mesh_data::{MeshFault, MeshWhy, What};
 use oemm_lines::LineFault;
 
+/// The greatest number of bytes of a mesh that are looked at: 2^33.
+pub const MOST_MESH_BYTES: u64 = 1 << 33;
+
+/// The greatest count of vertices and of faces: 2^24.
+pub const MOST_ITEMS: u64 = 1 << 24;
+
 /// How many bytes make a line too long.
 const TOO_MANY_LINE_BYTES: u64 = 65_537;
-
-/// The greatest number of bytes of a mesh that are looked at.
-pub const MOST_MESH_BYTES: u64 = 1 << 33;
 
 /// The fault of a line or a record that has so many bytes before it.
 pub fn fault_at(at: u64, why: MeshWhy) -> MeshFault
@@ -21,7 +24,7 @@ pub fn fault_at(at: u64, why: MeshWhy) -> MeshFault
 
 /// The fault of a mesh of which a byte past the limit is needed.
 pub fn too_many_bytes() -> MeshFault
-    ensures { result ≡ MeshFault.TooMany What.MeshBytes 8589934592 }
+    ensures { result ≡ MeshFault.TooMany What.MeshBytes most_mesh_bytes }
 {
     MeshFault::TooMany {
         what: What::MeshBytes,
@@ -29,9 +32,9 @@ pub fn too_many_bytes() -> MeshFault
     }
 }
 
-/// The fault of a mesh whose lines end with a fault.
+/// The fault of a mesh in which a fault of its lines stands: the budget of the lines is the limit that was passed.
 pub fn fault_of_lines(fault: LineFault) -> MeshFault
-    ensures { result ≡ end_fault 0 (Some fault) }
+    ensures { result ≡ fault_of fault }
 {
     match fault {
         LineFault::Read => MeshFault::Read,
@@ -39,7 +42,10 @@ pub fn fault_of_lines(fault: LineFault) -> MeshFault
             what: What::LineBytes,
             count: TOO_MANY_LINE_BYTES,
         },
-        LineFault::Bytes { .. } => too_many_bytes(),
+        LineFault::Bytes { taken } => MeshFault::TooMany {
+            what: What::MeshBytes,
+            count: taken,
+        },
         LineFault::Memory => MeshFault::Memory,
     }
 }

@@ -1,0 +1,4 @@
+pub mod Results
+pub mod Faults
+pub mod Faces
+pub mod Progress
