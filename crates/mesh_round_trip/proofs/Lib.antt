@@ -1,0 +1,12 @@
+pub mod Ink
+pub mod Lines
+pub mod OffLines
+pub mod Words
+pub mod Wholes
+pub mod Items
+pub mod Off
+pub mod PlyRecords
+pub mod PlyItems
+pub mod PlyHead
+pub mod Ply
+pub mod Meshes
