@@ -8,7 +8,7 @@ ghost use Rattle.oemm.specs.Paths.{path_of};
 
 use mesh_data::CommandWords;
 use oemm_io::{FileSink, FileSource, StdSink};
-use oemm_run::{End, Io, WordsFault, end_text, roles, run, status};
+use oemm_run::{End, Io, Roles, WordsFault, end_text, roles, run, status};
 use std::alloc::AllocError;
 use std::process::ExitCode;
 use std::rt::{Env, Files};
@@ -52,14 +52,26 @@ fn perform<R: Files + Print + AllocGlobal + Clone + Drop>(
         Err(WordsFault::Usage) => return Ok(End::Usage),
         Err(WordsFault::Memory) => return Err(AllocError),
     };
-    let io = Io {
+    let (_io, end) = run(rt.alloc(), words, io_of(rt, words, &roles)?);
+    Ok(end)
+}
+
+/// The files at the paths that the words name, and standard output.
+fn io_of<R: Files + Print + AllocGlobal + Clone + Drop>(
+    rt: &R,
+    words: &CommandWords,
+    roles: &Roles,
+) -> Result<Io<FileSource<R>, FileSource<R>, FileSink<R>, StdSink<R>>, AllocError>
+    ensures mesh { IfOk result (λ io. io.mesh.path ≡ path_of words.now roles.now.mesh) }
+    ensures script { IfOk result (λ io. io.script.path ≡ path_of words.now roles.now.script) }
+    ensures out { IfOk result (λ io. io.out.path ≡ path_of words.now roles.now.out) }
+{
+    Ok(Io {
         mesh: FileSource::new(rt.clone()?, path_at(rt, words, roles.mesh)?),
         script: FileSource::new(rt.clone()?, path_at(rt, words, roles.script)?),
         out: FileSink::new(rt.clone()?, path_at(rt, words, roles.out)?),
         report: StdSink::new(rt.clone()?),
-    };
-    let (_io, end) = run(rt.alloc(), words, io);
-    Ok(end)
+    })
 }
 
 /// The path that a word names, or an empty one.

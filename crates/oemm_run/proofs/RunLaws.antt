@@ -24,11 +24,14 @@ use Rattle.edit_script.specs.declared.fault.ScriptFault.TheVariants as script
 use Rattle.edit_script.specs.Grammar.{script_of}
 use Rattle.edit_script.specs.Script.{GivesFault}
 use Rattle.oemm_run.specs.declared.end.End.{End}
+use Rattle.oemm_run.specs.declared.shape.ShapeFault.{ShapeFault}
+use Rattle.oemm_run.specs.declared.shape.ShapeFault.TheVariants as shape
 use Rattle.oemm_run.specs.declared.end.End.TheVariants.{Done, Usage, ReadMesh, ReadScript, MeshText, MeshShape, ScriptText, WriteOut, WriteReport, Limit, Memory}
 use Rattle.oemm_run.specs.Laws.{HasReadMesh, HasGoodMesh, HasGoodInput, WritesPlay, Headline, IsComplete, TellsUsage, TellsMeshFault, TellsShape, TellsScriptFault}
 use Rattle.oemm_run.specs.Outside.{Outside, Wrote, FailedIn}
-use Rattle.oemm_run.specs.Phases.{WritesTexts, end_of_mesh, end_of_script}
+use Rattle.oemm_run.specs.Phases.{WritesTexts, end_of_mesh, end_of_script, end_of_shape}
 use Rattle.oemm_run.specs.Run.{RunGives, AreRun, HasMesh, HasManifold, HasScript, HasMeshFault, HasBadShape, HasScriptFault, IsDone, played, report_text, one_leaf, core_limit}
+use Rattle.oemm_run.specs.Shape.{GivesStart}
 use Rattle.oemm_run.specs.Soup.{soup_of}
 use Rattle.oemm_run.specs.Words.{order_of, form_of}
 
@@ -67,6 +70,15 @@ script_fault_gives words before after s script.Memory has told rose = tt
 pub gives_script_fault : (words : List (List ℕ)) (before after : Outside) (s : Soup) (fault : ScriptFault) (end : End) → end ≡ end_of_script fault → HasManifold words before s → IfSome before.script.left (λ bytes. GivesFault fault (script_of bytes)) → (fault ≡ script.Read → Rose before.script.faults after.script.faults) → RunGives words before after end
 gives_script_fault words before after s fault end is has told rose =
     subst (λ (e : End). RunGives words before after e) (sym is) (script_fault_gives words before after s fault has told rose)
+
+-- once the mesh was read, a run whose mesh can't be worked on gives this
+shape_fault_gives : (words : List (List ℕ)) (before after : Outside) (s : Soup) (fault : ShapeFault) → HasMesh words before s → GivesStart s (Err fault) → after.script ≡ before.script → RunGives words before after (end_of_shape fault)
+shape_fault_gives words before after s (shape.Bad what) has begun same = record { soup = s; earlier = has; bad = begun; script = same }
+shape_fault_gives words before after s shape.Memory has begun same = tt
+
+pub gives_shape_fault : (words : List (List ℕ)) (before after : Outside) (s : Soup) (fault : ShapeFault) (end : End) → end ≡ end_of_shape fault → HasMesh words before s → GivesStart s (Err fault) → after.script ≡ before.script → RunGives words before after end
+gives_shape_fault words before after s fault end is has begun same =
+    subst (λ (e : End). RunGives words before after e) (sym is) (shape_fault_gives words before after s fault has begun same)
 
 -- ---- the play
 
@@ -131,21 +143,21 @@ same_soup : (words : List (List ℕ)) (before : Outside) (s t : Soup) → HasRea
 same_soup words before s t good read =
     one_answer (soup_of good.bytes) t s (at_bytes before.mesh.left good.bytes (λ b. soup_of b ≡ Ok t) good.told read.mesh) good.soup
 
-no_mesh_fault : (words : List (List ℕ)) (before : Outside) (s : Soup) (f : MeshFault) → HasReadMesh words before s → HasMeshFault words before f → ⊥
-no_mesh_fault words before s f good bad =
+no_mesh_fault : (words : List (List ℕ)) (before after : Outside) (s : Soup) (f : MeshFault) → HasReadMesh words before s → HasMeshFault words before after f → ⊥
+no_mesh_fault words before after s f good bad =
     clash (soup_of good.bytes) s f good.soup (at_bytes before.mesh.left good.bytes (λ b. soup_of b ≡ Err f) good.told bad.mesh)
 
 -- a manifold has no bad shape, and a mesh no two
-no_bad_shape : (words : List (List ℕ)) (before : Outside) (s : Soup) (shape : Shape) → HasGoodMesh words before s → HasBadShape words before shape → ⊥
-no_bad_shape words before s shape good bad =
+no_bad_shape : (words : List (List ℕ)) (before after : Outside) (s : Soup) (shape : Shape) → HasGoodMesh words before s → HasBadShape words before after shape → ⊥
+no_bad_shape words before after s shape good bad =
     no_shape (start s) shape good.manifold (subst (λ (t : Soup). Audits (start t) (audit.Bad shape)) (same_soup words before s bad.soup good.read bad.earlier) bad.bad)
 
 no_manifold : (words : List (List ℕ)) (before : Outside) (s t : Soup) (shape : Shape) → HasReadMesh words before s → Audits (start s) (audit.Bad shape) → HasManifold words before t → ⊥
 no_manifold words before s t shape read bad has =
     no_shape (start s) shape (subst (λ (r : Soup). IsManifold (start r)) (same_soup words before s t read has.earlier) has.manifold) bad
 
-this_shape : (words : List (List ℕ)) (before : Outside) (s : Soup) (shape other : Shape) → HasReadMesh words before s → Audits (start s) (audit.Bad shape) → HasBadShape words before other → other ≡ shape
-this_shape words before s shape other read bad has =
+this_shape : (words : List (List ℕ)) (before after : Outside) (s : Soup) (shape other : Shape) → HasReadMesh words before s → Audits (start s) (audit.Bad shape) → HasBadShape words before after other → other ≡ shape
+this_shape words before after s shape other read bad has =
     one_shape (start s) other shape (subst (λ (t : Soup). Audits (start t) (audit.Bad other)) (same_soup words before s has.soup read has.earlier) has.bad) bad
 
 -- a good script is no other one, and has no fault
@@ -186,15 +198,15 @@ headline words before after end gives = record { writes = ends_done words before
 
 pub complete : (words : List (List ℕ)) (before after : Outside) (end : End) → RunGives words before after end → IsComplete words before after end
 complete words before after Done gives s tasks good calm = inl refl
-complete words before after Usage gives s tasks good calm = absurd (no_order words good.mesh.read.run gives)
-complete words before after ReadMesh gives s tasks good calm = absurd (calm_rises _ _ calm.mesh gives.1)
-complete words before after (MeshText at why) gives s tasks good calm = absurd (no_mesh_fault words before s _ good.mesh.read gives)
-complete words before after (MeshShape shape) gives s tasks good calm = absurd (no_bad_shape words before s shape good.mesh gives)
+complete words before after Usage gives s tasks good calm = absurd (no_order words good.mesh.read.run gives.none)
+complete words before after ReadMesh gives s tasks good calm = absurd (calm_rises _ _ calm.mesh gives.cause)
+complete words before after (MeshText at why) gives s tasks good calm = absurd (no_mesh_fault words before after s _ good.mesh.read gives)
+complete words before after (MeshShape shape) gives s tasks good calm = absurd (no_bad_shape words before after s shape good.mesh gives)
 complete words before after ReadScript gives s tasks good calm = absurd (calm_rises _ _ calm.script gives.cause)
 complete words before after (ScriptText line why) gives s tasks good calm = absurd (no_script_fault words before s tasks _ good gives)
 complete words before after WriteOut gives s tasks good calm = absurd (calm_rises _ _ calm.out gives.out.cause)
 complete words before after WriteReport gives s tasks good calm = absurd (calm_rises _ _ calm.report gives.report.cause)
-complete words before after (Limit what count) (inl bad) s tasks good calm = absurd (no_mesh_fault words before s _ good.mesh.read bad)
+complete words before after (Limit what count) (inl bad) s tasks good calm = absurd (no_mesh_fault words before after s _ good.mesh.read bad)
 complete words before after (Limit what count) (inr bad) s tasks good calm = absurd (no_script_fault words before s tasks _ good bad)
 complete words before after Memory gives s tasks good calm = inr refl
 
@@ -203,7 +215,7 @@ complete words before after Memory gives s tasks good calm = inr refl
 pub tells_usage : (words : List (List ℕ)) (before after : Outside) (end : End) → RunGives words before after end → TellsUsage words end
 tells_usage words before after Done gives none = absurd (no_order words gives.earlier.earlier.earlier.run none)
 tells_usage words before after Usage gives none = inl refl
-tells_usage words before after ReadMesh gives none = absurd (no_order words gives.0 none)
+tells_usage words before after ReadMesh gives none = absurd (no_order words gives.run none)
 tells_usage words before after (MeshText at why) gives none = absurd (no_order words gives.run none)
 tells_usage words before after (MeshShape shape) gives none = absurd (no_order words gives.earlier.run none)
 tells_usage words before after ReadScript gives none = absurd (no_order words gives.earlier.earlier.run none)
@@ -218,20 +230,20 @@ module _ (words : List (List ℕ)) (before : Outside) (bytes : List ℕ) (fault 
   not_read : (s : Soup) → HasMesh words before s → ⊥
   not_read s read = clash (soup_of bytes) s fault (at_bytes before.mesh.left bytes (λ b. soup_of b ≡ Ok s) told read.mesh) bad
 
-  this_mesh_fault : (f : MeshFault) → HasMeshFault words before f → f ≡ fault
-  this_mesh_fault f h = one_fault (soup_of bytes) f fault (at_bytes before.mesh.left bytes (λ b. soup_of b ≡ Err f) told h.mesh) bad
+  this_mesh_fault : (after : Outside) (f : MeshFault) → HasMeshFault words before after f → f ≡ fault
+  this_mesh_fault after f h = one_fault (soup_of bytes) f fault (at_bytes before.mesh.left bytes (λ b. soup_of b ≡ Err f) told h.mesh) bad
 
 pub tells_mesh_fault : (words : List (List ℕ)) (before after : Outside) (end : End) → RunGives words before after end → TellsMeshFault words before after end
 tells_mesh_fault words before after Done gives bytes fault run told bad calm = absurd (not_read words before bytes fault told bad _ gives.earlier.earlier.earlier)
-tells_mesh_fault words before after Usage gives bytes fault run told bad calm = absurd (no_order words run gives)
-tells_mesh_fault words before after ReadMesh gives bytes fault run told bad calm = absurd (calm_rises _ _ calm gives.1)
-tells_mesh_fault words before after (MeshText at why) gives bytes fault run told bad calm = inl (ap end_of_mesh (this_mesh_fault words before bytes fault told bad _ gives))
+tells_mesh_fault words before after Usage gives bytes fault run told bad calm = absurd (no_order words run gives.none)
+tells_mesh_fault words before after ReadMesh gives bytes fault run told bad calm = absurd (calm_rises _ _ calm gives.cause)
+tells_mesh_fault words before after (MeshText at why) gives bytes fault run told bad calm = inl (ap end_of_mesh (this_mesh_fault words before bytes fault told bad after _ gives))
 tells_mesh_fault words before after (MeshShape shape) gives bytes fault run told bad calm = absurd (not_read words before bytes fault told bad _ gives.earlier)
 tells_mesh_fault words before after ReadScript gives bytes fault run told bad calm = absurd (not_read words before bytes fault told bad _ gives.earlier.earlier)
 tells_mesh_fault words before after (ScriptText line why) gives bytes fault run told bad calm = absurd (not_read words before bytes fault told bad _ gives.earlier.earlier)
 tells_mesh_fault words before after WriteOut gives bytes fault run told bad calm = absurd (not_read words before bytes fault told bad _ gives.earlier.earlier.earlier)
 tells_mesh_fault words before after WriteReport gives bytes fault run told bad calm = absurd (not_read words before bytes fault told bad _ gives.earlier.earlier.earlier)
-tells_mesh_fault words before after (Limit what count) (inl h) bytes fault run told bad calm = inl (ap end_of_mesh (this_mesh_fault words before bytes fault told bad _ h))
+tells_mesh_fault words before after (Limit what count) (inl h) bytes fault run told bad calm = inl (ap end_of_mesh (this_mesh_fault words before bytes fault told bad after _ h))
 tells_mesh_fault words before after (Limit what count) (inr h) bytes fault run told bad calm = absurd (not_read words before bytes fault told bad _ h.earlier.earlier)
 tells_mesh_fault words before after Memory gives bytes fault run told bad calm = inr refl
 
@@ -244,28 +256,28 @@ module _ (words : List (List ℕ)) (before : Outside) (bytes : List ℕ) (fault 
 
 pub tells_script_fault : (words : List (List ℕ)) (before after : Outside) (end : End) → RunGives words before after end → TellsScriptFault words before after end
 tells_script_fault words before after Done gives s bytes fault good told bad calm calm' = absurd (not_read_script words before bytes fault told bad _ _ gives.earlier)
-tells_script_fault words before after Usage gives s bytes fault good told bad calm calm' = absurd (no_order words good.read.run gives)
-tells_script_fault words before after ReadMesh gives s bytes fault good told bad calm calm' = absurd (calm_rises _ _ calm gives.1)
-tells_script_fault words before after (MeshText at why) gives s bytes fault good told bad calm calm' = absurd (no_mesh_fault words before s _ good.read gives)
-tells_script_fault words before after (MeshShape shape) gives s bytes fault good told bad calm calm' = absurd (no_bad_shape words before s shape good gives)
+tells_script_fault words before after Usage gives s bytes fault good told bad calm calm' = absurd (no_order words good.read.run gives.none)
+tells_script_fault words before after ReadMesh gives s bytes fault good told bad calm calm' = absurd (calm_rises _ _ calm gives.cause)
+tells_script_fault words before after (MeshText at why) gives s bytes fault good told bad calm calm' = absurd (no_mesh_fault words before after s _ good.read gives)
+tells_script_fault words before after (MeshShape shape) gives s bytes fault good told bad calm calm' = absurd (no_bad_shape words before after s shape good gives)
 tells_script_fault words before after ReadScript gives s bytes fault good told bad calm calm' = absurd (calm_rises _ _ calm' gives.cause)
 tells_script_fault words before after (ScriptText line why) gives s bytes fault good told bad calm calm' = inl (ap end_of_script (this_script_fault words before bytes fault told bad _ gives))
 tells_script_fault words before after WriteOut gives s bytes fault good told bad calm calm' = absurd (not_read_script words before bytes fault told bad _ _ gives.earlier)
 tells_script_fault words before after WriteReport gives s bytes fault good told bad calm calm' = absurd (not_read_script words before bytes fault told bad _ _ gives.earlier)
-tells_script_fault words before after (Limit what count) (inl h) s bytes fault good told bad calm calm' = absurd (no_mesh_fault words before s _ good.read h)
+tells_script_fault words before after (Limit what count) (inl h) s bytes fault good told bad calm calm' = absurd (no_mesh_fault words before after s _ good.read h)
 tells_script_fault words before after (Limit what count) (inr h) s bytes fault good told bad calm calm' = inl (ap end_of_script (this_script_fault words before bytes fault told bad _ h))
 tells_script_fault words before after Memory gives s bytes fault good told bad calm calm' = inr refl
 
 pub tells_shape : (words : List (List ℕ)) (before after : Outside) (end : End) → RunGives words before after end → TellsShape words before after end
 tells_shape words before after Done gives s shape read bad calm = absurd (no_manifold words before s _ shape read bad gives.earlier.earlier)
-tells_shape words before after Usage gives s shape read bad calm = absurd (no_order words read.run gives)
-tells_shape words before after ReadMesh gives s shape read bad calm = absurd (calm_rises _ _ calm gives.1)
-tells_shape words before after (MeshText at why) gives s shape read bad calm = absurd (no_mesh_fault words before s _ read gives)
-tells_shape words before after (MeshShape other) gives s shape read bad calm = inl (ap (λ (x : Shape). MeshShape x) (this_shape words before s shape other read bad gives))
+tells_shape words before after Usage gives s shape read bad calm = absurd (no_order words read.run gives.none)
+tells_shape words before after ReadMesh gives s shape read bad calm = absurd (calm_rises _ _ calm gives.cause)
+tells_shape words before after (MeshText at why) gives s shape read bad calm = absurd (no_mesh_fault words before after s _ read gives)
+tells_shape words before after (MeshShape other) gives s shape read bad calm = inl (ap (λ (x : Shape). MeshShape x) (this_shape words before after s shape other read bad gives))
 tells_shape words before after ReadScript gives s shape read bad calm = absurd (no_manifold words before s _ shape read bad gives.earlier)
 tells_shape words before after (ScriptText line why) gives s shape read bad calm = absurd (no_manifold words before s _ shape read bad gives.earlier)
 tells_shape words before after WriteOut gives s shape read bad calm = absurd (no_manifold words before s _ shape read bad gives.earlier.earlier)
 tells_shape words before after WriteReport gives s shape read bad calm = absurd (no_manifold words before s _ shape read bad gives.earlier.earlier)
-tells_shape words before after (Limit what count) (inl h) s shape read bad calm = absurd (no_mesh_fault words before s _ read h)
+tells_shape words before after (Limit what count) (inl h) s shape read bad calm = absurd (no_mesh_fault words before after s _ read h)
 tells_shape words before after (Limit what count) (inr h) s shape read bad calm = absurd (no_manifold words before s _ shape read bad h.earlier)
 tells_shape words before after Memory gives s shape read bad calm = inr refl

@@ -1,6 +1,8 @@
 -- The exit statuses and the texts of the ends.
 use Rattle.std.specs.Prelude.{ℕ, List, [], ◌∷◌, ◌++◌, codes}
 use Rattle.std.specs.Fmt.{decimal}
+use Rattle.mesh_data.specs.declared.items.ElementKind.{ElementKind}
+use Rattle.mesh_data.specs.declared.items.ElementKind.TheVariants as element
 use Rattle.mesh_data.specs.declared.items.MeshWhy.{MeshWhy}
 use Rattle.mesh_data.specs.declared.items.MeshWhy.TheVariants as mesh_why
 use Rattle.mesh_data.specs.declared.items.ScriptWhy.{ScriptWhy}
@@ -25,7 +27,11 @@ status_of WriteReport = 7
 status_of (Limit what count) = 8
 status_of Memory = 9
 
--- the variant's name, and its number where it has one
+abbrev pub element_text : ElementKind → List ℕ
+element_text element.Vertex = codes "Vertex"
+element_text element.Face = codes "Face"
+
+-- the variant's name, and its number or element where it has one
 abbrev pub mesh_why_text : MeshWhy → List ℕ
 mesh_why_text mesh_why.Head = codes "Head"
 mesh_why_text mesh_why.Ascii = codes "Ascii"
@@ -34,7 +40,7 @@ mesh_why_text mesh_why.FaceFirst = codes "FaceFirst"
 mesh_why_text mesh_why.Twice = codes "Twice"
 mesh_why_text mesh_why.FloatCoordinate = codes "FloatCoordinate"
 mesh_why_text mesh_why.Kind = codes "Kind"
-mesh_why_text (mesh_why.NoElement which) = codes "NoElement"
+mesh_why_text (mesh_why.NoElement which) = codes "NoElement " ++ element_text which
 mesh_why_text (mesh_why.NoProperty which) = codes "NoProperty " ++ decimal which
 mesh_why_text mesh_why.Words = codes "Words"
 mesh_why_text mesh_why.Number = codes "Number"

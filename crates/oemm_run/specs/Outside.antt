@@ -2,6 +2,7 @@
 use Rattle.std.specs.Prelude.{◌≡◌, ℕ, ◌≤◌, Bool, true, List}
 use Rattle.fault_counts.specs.Counts.{Rose, IsCalm}
 use Rattle.fault_counts.specs.Told.{Told, Puts, PutsFront}
+use Rattle.oemm_io.specs.Whole.{StaysOpen}
 
 -- a source: the bytes that it has left, if it tells them, and how often it has failed
 pub record Input : Type 0 where
@@ -25,10 +26,11 @@ pub record Wrote (before after : Output) (text : List ℕ) : Type 0 where
   pub whole : Puts before.held after.held text
   pub finished : after.finished ≡ true
 
--- the sink failed, and a front of the text was put
+-- the sink failed, a front of the text was put, and the sink isn't finished unless it was before
 pub record FailedIn (before after : Output) (text : List ℕ) : Type 0 where
   pub cause : Rose before.faults after.faults
   pub front : PutsFront before.held after.held text
+  pub unfinished : StaysOpen before.finished after.finished
 
 -- both sinks are as they were
 pub record IsUntouched (before after : Outside) : Type 0 where

@@ -18,11 +18,12 @@ use Rattle.commit_journal.specs.Text.{journal_text}
 use Rattle.edit_script.specs.declared.fault.ScriptFault.{ScriptFault}
 use Rattle.edit_script.specs.declared.fault.ScriptFault.TheVariants as script
 use Rattle.edit_script.specs.Grammar.{script_of}
+use Rattle.edit_script.specs.Ranges.{AreTasks}
 use Rattle.oemm_run.specs.declared.end.End.{End}
 use Rattle.oemm_run.specs.declared.end.End.TheVariants.{Done, Usage, ReadMesh, ReadScript, MeshText, MeshShape, ScriptText, WriteOut, WriteReport, Limit, Memory}
 use Rattle.oemm_run.specs.Outside.{Outside, Wrote, FailedIn, IsUntouched}
 use Rattle.oemm_run.specs.Report.{summary}
-use Rattle.oemm_run.specs.Soup.{soup_of}
+use Rattle.oemm_run.specs.Soup.{IsSoup, soup_of}
 use Rattle.oemm_run.specs.Words.{order_of, form_of}
 
 -- an octree of one leaf
@@ -45,9 +46,15 @@ report_text p = journal_text 0 p.journal ++ summary p.mesh
 abbrev pub AreRun : List (List ℕ) → Type 0
 AreRun words = IsSome (order_of words)
 
--- and the mesh was read
+-- the words are in no form, and nothing was touched
+pub record IsRefused (words : List (List ℕ)) (before after : Outside) : Type 0 where
+  pub none : order_of words ≡ None
+  pub same : after ≡ before
+
+-- the words ask for a run, and the mesh was read
 pub record HasMesh (words : List (List ℕ)) (before : Outside) (s : Soup) : Type 0 where
   pub run : AreRun words
+  pub ranges : IsSoup s
   pub mesh : IfSome before.mesh.left (λ bytes. soup_of bytes ≡ Ok s)
 
 -- and the mesh is a manifold
@@ -58,18 +65,27 @@ pub record HasManifold (words : List (List ℕ)) (before : Outside) (s : Soup) :
 -- and the script was read
 pub record HasScript (words : List (List ℕ)) (before : Outside) (s : Soup) (tasks : List Task) : Type 0 where
   pub earlier : HasManifold words before s
+  pub ranges : AreTasks tasks
   pub script : IfSome before.script.left (λ bytes. script_of bytes ≡ Ok tasks)
 
--- the mesh's text has this fault first
-pub record HasMeshFault (words : List (List ℕ)) (before : Outside) (fault : MeshFault) : Type 0 where
+-- the mesh's source failed, and the script wasn't touched
+pub record FailsAtMesh (words : List (List ℕ)) (before after : Outside) : Type 0 where
+  pub run : AreRun words
+  pub cause : Rose before.mesh.faults after.mesh.faults
+  pub script : after.script ≡ before.script
+
+-- the mesh's text has this fault first, and the script wasn't touched
+pub record HasMeshFault (words : List (List ℕ)) (before after : Outside) (fault : MeshFault) : Type 0 where
   pub run : AreRun words
   pub mesh : IfSome before.mesh.left (λ bytes. soup_of bytes ≡ Err fault)
+  pub script : after.script ≡ before.script
 
--- the mesh was read, and this is what its audit answers
-pub record HasBadShape (words : List (List ℕ)) (before : Outside) (shape : Shape) : Type 0 where
+-- the mesh was read, this is what its audit answers, and the script wasn't touched
+pub record HasBadShape (words : List (List ℕ)) (before after : Outside) (shape : Shape) : Type 0 where
   pub soup : Soup
   pub earlier : HasMesh words before soup
   pub bad : Audits (start soup) (audit.Bad shape)
+  pub script : after.script ≡ before.script
 
 -- the mesh is a manifold, and the script's text has this fault first
 pub record HasScriptFault (words : List (List ℕ)) (before : Outside) (fault : ScriptFault) : Type 0 where
@@ -111,15 +127,15 @@ pub record FailsAtReport (words : List (List ℕ)) (before after : Outside) : Ty
 -- what a run gives
 abbrev pub RunGives : List (List ℕ) → Outside → Outside → End → Type 0
 RunGives words before after Done = IsDone words before after
-RunGives words before after Usage = order_of words ≡ None
-RunGives words before after ReadMesh = AreRun words × Rose before.mesh.faults after.mesh.faults
-RunGives words before after (MeshText at why) = HasMeshFault words before (mesh.Text at why)
-RunGives words before after (MeshShape shape) = HasBadShape words before shape
+RunGives words before after Usage = IsRefused words before after
+RunGives words before after ReadMesh = FailsAtMesh words before after
+RunGives words before after (MeshText at why) = HasMeshFault words before after (mesh.Text at why)
+RunGives words before after (MeshShape shape) = HasBadShape words before after shape
 RunGives words before after ReadScript = FailsAtScript words before after
 RunGives words before after (ScriptText line why) = HasScriptFault words before (script.Syntax line why)
 RunGives words before after WriteOut = FailsAtOut words before after
 RunGives words before after WriteReport = FailsAtReport words before after
-RunGives words before after (Limit what count) = HasMeshFault words before (mesh.TooMany what count) ⊎ HasScriptFault words before (script.TooMany what count)
+RunGives words before after (Limit what count) = HasMeshFault words before after (mesh.TooMany what count) ⊎ HasScriptFault words before (script.TooMany what count)
 RunGives words before after Memory = ⊤
 
 -- what an end leaves of the sinks: what comes before the writes leaves both as they were

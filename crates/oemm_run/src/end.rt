@@ -16,7 +16,8 @@ pub enum End {
     ReadMesh,
     /// The script's source failed.
     ReadScript,
-    /// The first fault of the mesh's text, and the number of bytes before its line, or in all where the text is cut.
+    /// The first fault of the mesh's text, and the number of bytes before its line or record, or in all where the text
+    /// is cut.
     MeshText { at: u64, why: MeshWhy },
     /// What keeps the mesh from being an oriented manifold.
     MeshShape(Shape),

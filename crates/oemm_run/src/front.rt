@@ -1,6 +1,6 @@
 //! The first bytes of a source.
 
-ghost use Rattle.std.specs.Prelude.{◌≡◌, ◌<◌, ◌≤◌, take, IfOk};
+ghost use Rattle.std.specs.Prelude.{◌<◌, ◌≤◌, take, IfOk};
 ghost use Rattle.fault_counts.specs.Counts.{HasCause};
 ghost use Rattle.fault_counts.specs.Told.{Takes, IsAtEnd};
 

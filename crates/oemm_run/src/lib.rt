@@ -2,6 +2,7 @@
 #![tactic(auto)]
 
 mod end;
+mod end_line;
 mod front;
 mod io;
 mod mesh_source;
@@ -11,14 +12,13 @@ mod play;
 mod shape;
 mod soup;
 mod summary;
-mod tellings;
 mod top;
 mod words;
 
 pub use end::{End, status};
+pub use end_line::end_text;
 pub use io::{Io, Seen};
 pub use orders::{Order, Roles, WordsFault};
-pub use tellings::end_text;
 pub use top::run;
 pub use words::{read_words, roles};
 

@@ -1,6 +1,6 @@
 //! The points and faces of a mesh's source.
 
-ghost use Rattle.std.specs.Prelude.{◌≡◌, ◌≤◌, true, false, IfOk, IfSome, Err};
+ghost use Rattle.std.specs.Prelude.{◌≡◌, ◌≤◌, IfOk, IfSome, Err};
 ghost use Rattle.fault_counts.specs.Counts.{Rose};
 ghost use Rattle.mesh_data.specs.Reading.{soup};
 ghost use Rattle.oemm_run.specs.Soup.{soup_of, limited, reading_in, GivesSoup, IsSoup};
@@ -8,19 +8,17 @@ ghost use Rattle.oemm_run.specs.Soup.{soup_of, limited, reading_in, GivesSoup, I
 use crate::front::take_front;
 use crate::soup::read_soup;
 use mesh_data::{MeshFault, Soup};
+use mesh_reading::MOST_MESH_BYTES;
 use oemm_io::{Headed, Source};
 use oemm_lines::Lines;
 use off_reader::OffReader;
 use ply_reader::{PlyReader, is_ply};
 use std::alloc::Global;
 
-/// The greatest number of bytes of a mesh.
-const MOST_MESH_BYTES: u64 = 1 << 33;
-
 /// The points and faces of a mesh in the format that its first bytes tell. Nothing behind the last face is looked at.
 ///
 /// # Errors
-/// The first fault of the text, `TooMany` where a limit is passed, and `Read` where the source fails.
+/// The first fault of the text, `TooMany` where a limit is passed, `Read` where the source fails, and `Memory`.
 pub fn read_mesh<M: Source>(alloc: Global, mut source: M) -> (M, Result<Soup, MeshFault>)
     ensures told { IfSome (M.left source) (λ bytes. GivesSoup result.1 (soup_of bytes)) }
     ensures ranges { IfOk result.1 IsSoup }

@@ -100,6 +100,9 @@ fn report_of(alloc: Global, mesh: &PlainMesh, journal: &Entries) -> Result<Bytes
 }
 
 /// Does the tasks on the mesh, and answers what is written of them.
+///
+/// # Errors
+/// Want of memory.
 pub fn texts_of(alloc: Global, mut mesh: PlainMesh, tasks: &[Task]) -> Result<Texts, AllocError>
     requires { length tasks.now ≤ 2 ^ 32 }
     ensures points { IfOk result (λ texts. texts.points ≡ points_of (play one_leaf core_limit mesh tasks.now).mesh) }

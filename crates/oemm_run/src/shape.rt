@@ -29,7 +29,8 @@ impl From<AllocError> for ShapeFault {
 /// The start mesh of points and faces, which is an oriented manifold.
 ///
 /// # Errors
-/// The least directed edge that two faces have, else the least vertex that is in a face and has no ring.
+/// `Bad` with the least directed edge that two faces have, else with the least vertex that is in a face and has no
+/// ring; and `Memory`.
 pub fn start_mesh(alloc: Global, soup: &Soup) -> Result<PlainMesh, ShapeFault>
     requires { IsSoup soup.now }
     ensures { GivesStart soup.now result }

@@ -1,6 +1,6 @@
 //! The points and faces that a reader gives.
 
-ghost use Rattle.std.specs.Prelude.{◌≡◌, ℕ, ◌≤◌, length, map, All, IfOk, IfErr, OnOk, IfSome, Err, Some, vec_len};
+ghost use Rattle.std.specs.Prelude.{◌≡◌, ◌≤◌, length, map, All, IfOk, IfErr, OnOk, IfSome, Err, Some};
 ghost use Rattle.std.specs.Option.{option_map};
 ghost use Rattle.fault_counts.specs.Counts.{Rose};
 ghost use Rattle.mesh_data.specs.declared.items.Item.TheVariants.{Counts, Vertex, Face};
@@ -96,7 +96,7 @@ fn next_end<I: Items>(items: &mut I, counts: (u32, u32)) -> Result<(), MeshFault
 /// The points and faces of a mesh, of a reader that has given nothing.
 ///
 /// # Errors
-/// The first fault of the reading, and `TooMany` where the vertices are more than `MOST_VERTICES`.
+/// The first fault of the reading, `TooMany` where the vertices are more than `MOST_VERTICES`, and `Memory`.
 #[tactic(auto, using(crate::proofs::Readings::soup_done, crate::proofs::Readings::soup_many, crate::proofs::Readings::soup_first, crate::proofs::Readings::soup_later, crate::proofs::Readings::all_stop))]
 pub fn read_soup<I: Items>(alloc: Global, items: &mut I) -> Result<Soup, MeshFault>
     requires { I.given items.old ≡ nothing_given }

@@ -7,6 +7,9 @@ ghost use Rattle.oemm_run.specs.Report.{summary_line};
 use std::alloc::AllocError;
 
 /// Writes the counts of a mesh: its vertices, its faces, its Euler characteristic and its border edges.
+///
+/// # Errors
+/// Want of memory.
 pub fn put_summary(
     text: &mut String,
     vertices: usize,

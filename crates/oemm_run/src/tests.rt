@@ -1,5 +1,5 @@
 use super::*;
-use mesh_data::{CommandWords, MeshWhy, Name, ScriptWhy, Shape, What};
+use mesh_data::{CommandWords, ElementKind, MeshWhy, Name, ScriptWhy, Shape, What};
 use oemm_io::{MemSink, MemSource};
 use std::alloc::{AllocError, Global};
 use std::test::Fail;
@@ -468,6 +468,26 @@ fn ends_are_told(rt: HostRuntime) -> Result<(), Fail> {
             },
             3,
             "oemm: mesh fault at byte 16: OutOfRange 1\n",
+        ),
+        (
+            End::MeshText {
+                at: 40,
+                why: MeshWhy::NoElement {
+                    which: ElementKind::Vertex,
+                },
+            },
+            3,
+            "oemm: mesh fault at byte 40: NoElement Vertex\n",
+        ),
+        (
+            End::MeshText {
+                at: 60,
+                why: MeshWhy::NoElement {
+                    which: ElementKind::Face,
+                },
+            },
+            3,
+            "oemm: mesh fault at byte 60: NoElement Face\n",
         ),
         (
             End::MeshShape(edge(0, 1)),

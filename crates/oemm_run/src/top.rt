@@ -1,6 +1,5 @@
 //! The top call.
 
-ghost use Rattle.std.specs.Prelude.{◌≡◌};
 ghost use Rattle.oemm_run.specs.Run.{RunGives, LeavesSinks};
 ghost use Rattle.oemm_run.specs.Outside.{KeepsCounts};
 ghost use Rattle.oemm_run.specs.Laws.{Headline, IsComplete, TellsUsage, TellsMeshFault, TellsShape, TellsScriptFault};

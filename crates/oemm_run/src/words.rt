@@ -11,7 +11,7 @@ use std::alloc::Global;
 /// Reads what the words ask for.
 ///
 /// # Errors
-/// `Usage` where the words are in no form.
+/// `Usage` where the words are in no form, and `Memory`.
 pub fn read_words(alloc: Global, words: &CommandWords) -> Result<Order, WordsFault>
     ensures order { IfOk result (λ order. order_of words.now ≡ Some order) }
     ensures usage { result ≡ Err WordsFault.Usage → order_of words.now ≡ None }

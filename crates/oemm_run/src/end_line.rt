@@ -5,10 +5,13 @@ ghost use Rattle.std.specs.String.{string_bytes};
 ghost use Rattle.oemm_run.specs.End.{end_text, end_words, mesh_why_text, script_why_text, shape_text, what_text};
 
 use crate::end::End;
-use mesh_data::{Bytes, MeshWhy, ScriptWhy, Shape, What};
+use mesh_data::{Bytes, ElementKind, MeshWhy, ScriptWhy, Shape, What};
 use std::alloc::{AllocError, Global};
 
 /// The line that tells how a command ended, and nothing for `Done`.
+///
+/// # Errors
+/// Want of memory.
 pub fn end_text(alloc: Global, end: &End) -> Result<Bytes, AllocError>
     ensures { IfOk result (λ text. text ≡ end_text end.now) }
 {
@@ -88,7 +91,7 @@ fn put_mesh_why(text: &mut String, why: &MeshWhy) -> Result<(), AllocError>
         MeshWhy::Twice => text.push_str("Twice"),
         MeshWhy::FloatCoordinate => text.push_str("FloatCoordinate"),
         MeshWhy::Kind => text.push_str("Kind"),
-        MeshWhy::NoElement { .. } => text.push_str("NoElement"),
+        MeshWhy::NoElement { which } => put_no_element(text, which),
         MeshWhy::NoProperty { which } => write!(text, "NoProperty {which}"),
         MeshWhy::Words => text.push_str("Words"),
         MeshWhy::Number => text.push_str("Number"),
@@ -100,6 +103,15 @@ fn put_mesh_why(text: &mut String, why: &MeshWhy) -> Result<(), AllocError>
         MeshWhy::Repeated { face } => write!(text, "Repeated {face}"),
         MeshWhy::Cut => text.push_str("Cut"),
     }
+}
+
+fn put_no_element(text: &mut String, which: &ElementKind) -> Result<(), AllocError>
+    ensures { OnOk result (string_bytes text.new ≡ string_bytes text.old ++ mesh_why_text (MeshWhy.NoElement which.now)) }
+{
+    text.push_str(match which {
+        ElementKind::Vertex => "NoElement Vertex",
+        ElementKind::Face => "NoElement Face",
+    })
 }
 
 fn put_script_why(text: &mut String, why: &ScriptWhy) -> Result<(), AllocError>
