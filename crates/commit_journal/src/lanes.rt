@@ -1,9 +1,14 @@
+//! The part of a journal that is one lane's.
+
 ghost use Rattle.std.specs.Prelude.{◌≡◌, ◌==◌, IfOk, filter};
 
 use mesh_data::{Copied, Entries, Lane};
 use std::alloc::{AllocError, Global};
 
 /// The entries of a lane, in their order.
+///
+/// # Errors
+/// Want of memory.
 pub fn lane_part(alloc: Global, entries: &Entries, lane: Lane) -> Result<Entries, AllocError>
     ensures { IfOk result (λ part. part ≡ filter (λ e. e.task.lane == lane) entries.now) }
 {

@@ -1,3 +1,5 @@
+//! The lines of an entry: its head, its edits and their replies.
+
 ghost use Rattle.std.specs.Prelude.{◌≡◌, ◌++◌, map, OnOk};
 ghost use Rattle.std.specs.Option.{option_copied};
 ghost use Rattle.std.specs.String.{string_bytes};
@@ -65,6 +67,9 @@ fn put_answered(text: &mut String, edit: &Edit, reply: Option<&Reply>) -> Result
 }
 
 /// Writes each edit with the reply at its place, if there is one.
+///
+/// # Errors
+/// Want of memory.
 pub fn put_edits(text: &mut String, edits: &[Edit], replies: &[Reply]) -> Result<(), AllocError>
     ensures { OnOk result (string_bytes text.new ≡ string_bytes text.old ++ answered_edits edits.now replies.now) }
 {
@@ -76,6 +81,9 @@ pub fn put_edits(text: &mut String, edits: &[Edit], replies: &[Reply]) -> Result
 }
 
 /// Writes the head line of the entry with this number.
+///
+/// # Errors
+/// Want of memory.
 pub fn put_head(text: &mut String, number: u32, entry: &Entry) -> Result<(), AllocError>
     ensures { OnOk result (string_bytes text.new ≡ string_bytes text.old ++ head_line number entry.now) }
 {

@@ -1,3 +1,5 @@
+//! The text of entries, one behind another.
+
 ghost use Rattle.std.specs.Prelude.{◌≡◌, ◌+◌, ◌^◌, ◌≤◌, ◌++◌, length, OnOk, IfOk};
 ghost use Rattle.std.specs.String.{string_bytes};
 ghost use Rattle.commit_journal.specs.Text.{entry_text, journal_text};
@@ -29,6 +31,9 @@ fn put_entries(text: &mut String, first: u32, entries: &[Entry]) -> Result<(), A
 }
 
 /// The text of the entry with this number.
+///
+/// # Errors
+/// Want of memory.
 pub fn line_text(alloc: Global, number: u32, entry: &Entry) -> Result<Bytes, AllocError>
     ensures { IfOk result (λ text. text ≡ entry_text number entry.now) }
 {
@@ -38,6 +43,9 @@ pub fn line_text(alloc: Global, number: u32, entry: &Entry) -> Result<Bytes, All
 }
 
 /// The text of the entries, which are numbered on from the first number.
+///
+/// # Errors
+/// Want of memory.
 pub fn journal_text(alloc: Global, first: u32, entries: &Entries) -> Result<Bytes, AllocError>
     requires { first + length entries.now ≤ 2 ^ 32 }
     ensures { IfOk result (λ text. text ≡ journal_text first entries.now) }

@@ -1,1 +1,2 @@
+//! Definitions alone: counts of faults that never fall, and what is told of an object of the outside.
 #![tactic(auto)]
