@@ -8,6 +8,7 @@ ghost use Rattle.oemm_io.specs.Memory.{new_output, is_put_failing, put_count, af
 
 use crate::copies::copy_front;
 use crate::flows::{Failed, Sink, Source};
+use crate::tally::count_fault;
 use std::alloc::{AllocError, Global};
 use std::marker::Model;
 
@@ -78,8 +79,7 @@ impl Source for MemSource {
     {
         self.calls = self.calls.saturating_add(1);
         if self.failing.contains(&self.calls) {
-            self.faults = self.faults.saturating_add(1);
-            return Err(Failed);
+            return Err(count_fault(&mut self.faults));
         }
         let left = &self.bytes[self.at..];
         let piece = &left[..self.piece.min(left.len())];
@@ -180,8 +180,7 @@ impl Sink for MemSink {
     {
         self.calls = self.calls.saturating_add(1);
         if self.failing.contains(&self.calls) || self.room == 0 {
-            self.faults = self.faults.saturating_add(1);
-            return Err(Failed);
+            return Err(count_fault(&mut self.faults));
         }
         let count = bytes.len().min(self.piece.min(self.room));
         match self.bytes.extend_from_slice(&bytes[..count]) {
@@ -204,8 +203,7 @@ impl Sink for MemSink {
     {
         self.calls = self.calls.saturating_add(1);
         if self.failing.contains(&self.calls) {
-            self.faults = self.faults.saturating_add(1);
-            return Err(Failed);
+            return Err(count_fault(&mut self.faults));
         }
         self.finished = true;
         Ok(())

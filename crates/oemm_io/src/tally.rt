@@ -83,7 +83,7 @@ pub fn taken(read: io::Result<usize>, faults: &mut u64) -> Result<usize, Failed>
 }
 
 /// Counts one fault more.
-fn count_fault(faults: &mut u64) -> Failed
+pub fn count_fault(faults: &mut u64) -> Failed
     ensures after { faults.new ≡ next_count faults.old }
     ensures kept { faults.old ≤ faults.new }
 {
