@@ -1,9 +1,9 @@
 -- Parts of a buffer.
-use Rattle.std.proofs.Common.{◌≡◌, ℕ, ◌+◌, ◌-◌, ◌≤◌, List, [], ◌∷◌, ◌++◌, length, take, drop, Some, None, refl, ap, sym, subst, ◌∙◌, append_assoc, arith, rules}
+use Rattle.std.proofs.Common.{◌≡◌, ℕ, ◌+◌, ◌-◌, ◌≤◌, List, ◌++◌, length, take, drop, Some, None, refl, ap, sym, ◌∙◌, append_assoc, arith, rules}
 use Rattle.std.specs.List.{slice_range, CopiedTo}
 use Rattle.std.proofs.Math.Seq.{take-add}
 use Rattle.std.proofs.lemmas.List.{drop-take, drop-drop, length-take, take_all, take_at, same_lists, places}
-use Rattle.fault_counts.specs.Told.{Told, Takes, IsAtEnd}
+use Rattle.fault_counts.specs.Told.{Told, Takes}
 use Rattle.oemm_lines.specs.Stream.{left_with}
 
 -- the part without its first bytes

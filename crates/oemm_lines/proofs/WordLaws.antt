@@ -1,7 +1,5 @@
-use Rattle.std.proofs.Common.{◌≡◌, ℕ, zero, suc, ◌<◌, ◌≤◌, true, false, not, ◌≢◌, ◌++◌, List, [], ◌∷◌, length, get_or, take, drop, refl, ap, sym, ◌∙◌, arith, length-drop, add-zero}
+use Rattle.std.proofs.Common.{◌≡◌, ℕ, true, false, not, ◌≢◌, ◌++◌, List, [], ◌∷◌, length, refl, ap, ◌∙◌, arith}
 use Rattle.std.specs.List.{AllByRecursion}
-use Rattle.std.proofs.lemmas.Bool.{true≢false}
-use Rattle.std.proofs.lemmas.List.{get_or-drop}
 use Rattle.oemm_lines.specs.Words.{is_blank, begins_with_word, lengthened, words_of}
 
 -- a blank in front makes no word

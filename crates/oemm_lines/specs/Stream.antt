@@ -115,6 +115,10 @@ flow_from comments budget at number (b ∷ bs) =
 abbrev pub told_lines : Bool → ℕ → ℕ → ℕ → List ℕ → Flow
 told_lines comments budget at number bytes = flow_from comments budget at number (bodies bytes)
 
+-- the greatest number of bytes that are read ahead
+abbrev pub most_ahead : ℕ
+most_ahead = 131072
+
 -- a source, the bytes of it that were read ahead, how many bytes were given before them, the number of the next line,
 -- and the fault that was answered
 pub record Stream (S : Type 0) : Type 0 where

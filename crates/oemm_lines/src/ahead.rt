@@ -3,7 +3,7 @@
 ghost use Rattle.std.specs.Prelude.{◌≡◌, ◌+◌, ◌-◌, ◌<◌, ◌≤◌, [], length, take, drop, slice_range, IfOk, OnErr};
 ghost use Rattle.fault_counts.specs.Counts.{HasCause};
 ghost use Rattle.fault_counts.specs.Told.{Takes, IsAtEnd};
-ghost use Rattle.oemm_lines.specs.Stream.{left_with};
+ghost use Rattle.oemm_lines.specs.Stream.{left_with, most_ahead};
 
 use oemm_io::{Failed, Source};
 use std::alloc::{AllocError, Global};
@@ -25,12 +25,13 @@ pub struct Ahead {
 
 impl Model for Ahead {
     ghost use Rattle.std.specs.Prelude.{◌≡◌, ◌≤◌, List, ℕ, slice_range, vec_len};
+    ghost use Rattle.oemm_lines.specs.Stream.{most_ahead};
 
     ghost Value = { List ℕ };
 
     ghost view = { λ a. slice_range a.buffer.items a.from a.to };
 
-    ghost invariant = { λ a. (a.from ≤ a.to) × (a.to ≤ vec_len a.buffer) × (vec_len a.buffer ≡ 131072) };
+    ghost invariant = { λ a. (a.from ≤ a.to) × (a.to ≤ vec_len a.buffer) × (vec_len a.buffer ≡ most_ahead) };
 }
 
 impl Ahead {
@@ -70,6 +71,7 @@ impl Ahead {
         ensures front { take (length self.old) self.new ≡ self.old }
         ensures count { IfOk result (λ n. length self.new ≡ length self.old + n) }
         ensures end { IfOk result (λ n. n ≡ 0 → IsAtEnd (S.left source.new)) }
+        ensures room { length self.new ≤ most_ahead }
         ensures err { OnErr result (self.new ≡ self.old) }
         ensures cause { HasCause (S.faults source.old) (S.faults source.new) result }
     {

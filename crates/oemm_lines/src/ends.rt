@@ -2,7 +2,7 @@
 
 ghost use Rattle.std.specs.Prelude.{◌≡◌, ◌<◌, ◌≤◌, length, slice_index, IfOk, OnErr, MatchOption};
 ghost use Rattle.fault_counts.specs.Counts.{HasCause};
-ghost use Rattle.oemm_lines.specs.Stream.{left_with};
+ghost use Rattle.oemm_lines.specs.Stream.{left_with, most_ahead};
 ghost use Rattle.oemm_lines.specs.Lines.{HasNoFeed};
 ghost use Rattle.oemm_lines.specs.Ends.{IsFound};
 
@@ -40,8 +40,10 @@ fn feed_from(bytes: &[u8], seen: usize, until: usize) -> Option<usize>
 /// # Errors
 /// `Failed` where the source fails.
 pub fn find_end<S: Source>(source: &mut S, ahead: &mut Ahead, limit: usize) -> Result<Found, Failed>
-    requires { limit ≤ 65536 }
+    requires limit { limit ≤ 65536 }
+    requires room { length ahead.old ≤ most_ahead }
     ensures left { left_with ahead.old (S.left source.old) ≡ left_with ahead.new (S.left source.new) }
+    ensures room { length ahead.new ≤ most_ahead }
     ensures found { IfOk result (λ found. IsFound limit ahead.new (S.left source.new) found) }
     ensures open { OnErr result ((length ahead.new ≤ limit) × HasNoFeed ahead.new (length ahead.new)) }
     ensures cause { HasCause (S.faults source.old) (S.faults source.new) result }

@@ -3,7 +3,7 @@
 ghost use Rattle.std.specs.Prelude.{◌≡◌, ◌+◌, ◌-◌, ◌<◌, ◌≤◌, [], ◌++◌, min, length, take, IfOk, OnErr, IfSome, IsErrOf, MatchBool};
 ghost use Rattle.fault_counts.specs.Counts.{Rose, HasCause};
 ghost use Rattle.fault_counts.specs.Told.{Takes, IsAtEnd};
-ghost use Rattle.oemm_lines.specs.Stream.{left_with, Loses};
+ghost use Rattle.oemm_lines.specs.Stream.{left_with, most_ahead, Loses};
 
 use super::ahead::Ahead;
 use oemm_io::{Failed, Source};
@@ -29,10 +29,12 @@ impl From<Failed> for Stop {
 
 /// Reads ahead if no bytes were, and answers whether there are any.
 fn some_ahead<S: Source>(source: &mut S, ahead: &mut Ahead) -> Result<bool, Failed>
+    requires { length ahead.old ≤ most_ahead }
     ensures left { left_with ahead.old (S.left source.old) ≡ left_with ahead.new (S.left source.new) }
     ensures some { IfOk result (λ some. MatchBool some (0 < length ahead.new)
         ((ahead.new ≡ []) × IsAtEnd (S.left source.new))) }
     ensures grows { length ahead.old ≤ length ahead.new }
+    ensures room { length ahead.new ≤ most_ahead }
     ensures asked { OnErr result (ahead.old ≡ []) }
     ensures cause { HasCause (S.faults source.old) (S.faults source.new) result }
 {
@@ -64,6 +66,7 @@ pub fn fill_from<S: Source>(
     buf: &mut [u8],
     room: u64,
 ) -> Result<usize, Stop>
+    requires { length ahead.old ≤ most_ahead }
     ensures fits { IfOk result (λ n. (n ≤ length buf.new) × (n ≤ room)) }
     ensures taken { IfOk result (λ n. Takes (left_with ahead.old (S.left source.old)) (left_with ahead.new (S.left source.new)) (take n buf.new)) }
     ensures whole { IfOk result (λ n. n < length buf.new → (ahead.new ≡ []) × IsAtEnd (S.left source.new)) }
@@ -72,6 +75,7 @@ pub fn fill_from<S: Source>(
     ensures wide { IsErrOf result Stop.Past → room < length buf.new }
     ensures asked { IsErrOf result Stop.Failed → length ahead.old < length buf.new }
     ensures failed { IsErrOf result Stop.Failed → Rose (S.faults source.old) (S.faults source.new) }
+    ensures room { length ahead.new ≤ most_ahead }
     ensures kept { S.faults source.old ≤ S.faults source.new }
 {
     let mut filled = 0;

@@ -16,8 +16,8 @@ const LONGEST: u64 = 65536;
 
 /// A reader of the lines of a source.
 ///
-/// It takes blocks of 64 KiB and has room for two of them, whatever the source has. Contracts see it as the source,
-/// the bytes that were read ahead, and how far it has come.
+/// It takes blocks of 64 KiB and has room for two of them, whatever the source has: never more than 131,072 bytes are
+/// read ahead of what was given. Contracts see it as the source, these bytes, and how far it has come.
 #[derive(Drop)]
 pub struct Lines<S> {
     alloc: Global,
@@ -31,8 +31,8 @@ pub struct Lines<S> {
 }
 
 impl<S> Model for Lines<S> {
-    ghost use Rattle.std.specs.Prelude.{◌+◌, ◌≤◌};
-    ghost use Rattle.oemm_lines.specs.Stream.{Stream};
+    ghost use Rattle.std.specs.Prelude.{◌+◌, ◌≤◌, length};
+    ghost use Rattle.oemm_lines.specs.Stream.{Stream, most_ahead};
 
     ghost Value = { Stream S };
 
@@ -46,7 +46,7 @@ impl<S> Model for Lines<S> {
       fault = a.fault;
     } };
 
-    ghost invariant = { λ a. (a.at ≤ a.budget) × (a.lines ≤ a.at) };
+    ghost invariant = { λ a. (a.at ≤ a.budget) × (a.lines ≤ a.at) × (length a.ahead ≤ most_ahead) };
 }
 
 impl<S> Lines<S> {
@@ -102,7 +102,7 @@ impl<S: Source> Lines<S> {
     ghost use Rattle.std.specs.Prelude.{◌≡◌, ◌⊎◌, ◌+◌, ◌^◌, ◌<◌, ◌≤◌, None, Some, Err, drop, length, IfSome, IfOk, OnOk, IsErrOf};
     ghost use Rattle.std.specs.Result.{result_err};
     ghost use Rattle.fault_counts.specs.Counts.{Rose};
-    ghost use Rattle.oemm_lines.specs.Stream.{end_of, flow_left, line_of, GivesNext, RawGives, Says};
+    ghost use Rattle.oemm_lines.specs.Stream.{end_of, flow_left, line_of, GivesNext, RawGives, Says, most_ahead};
 
     /// The next line, or None at the end of the source. Lines end in a line feed, and one carriage return before that
     /// belongs to their end; the last line may lack its end.
@@ -117,6 +117,7 @@ impl<S: Source> Lines<S> {
         ensures gives { GivesNext S.left self.old result self.new }
         ensures says { Says (flow_left S.left self.old) result (flow_left S.left self.new) }
         ensures size { OnOk result (end_of S.left self.new ≡ end_of S.left self.old) }
+        ensures room { length self.new.ahead ≤ most_ahead }
         ensures kept { S.faults self.old.source ≤ S.faults self.new.source }
         ensures read { IsErrOf result LineFault.Read → (self.old.fault ≡ Some LineFault.Read) ⊎ Rose (S.faults self.old.source) (S.faults self.new.source) }
         ensures same { (self.new.budget ≡ self.old.budget) × (self.new.comments ≡ self.old.comments) }
@@ -141,6 +142,7 @@ impl<S: Source> Lines<S> {
         ensures stands { self.new.fault ≡ result_err result }
         ensures gives { RawGives S.left self.old buf.new result self.new }
         ensures size { OnOk result (end_of S.left self.new ≡ end_of S.left self.old) }
+        ensures room { length self.new.ahead ≤ most_ahead }
         ensures kept { S.faults self.old.source ≤ S.faults self.new.source }
         ensures read { IsErrOf result LineFault.Read → (self.old.fault ≡ Some LineFault.Read) ⊎ Rose (S.faults self.old.source) (S.faults self.new.source) }
         ensures same { (self.new.budget ≡ self.old.budget) × (self.new.comments ≡ self.old.comments) }
@@ -167,6 +169,7 @@ impl<S: Source> Lines<S> {
     fn fill(&mut self, buf: &mut [u8]) -> Result<usize, LineFault>
         requires { self.old.fault ≡ None }
         ensures calm { self.new.fault ≡ None }
+        ensures room { length self.new.ahead ≤ most_ahead }
         ensures gives { RawGives S.left self.old buf.new result self.new }
         ensures kept { S.faults self.old.source ≤ S.faults self.new.source }
         ensures read { IsErrOf result LineFault.Read → Rose (S.faults self.old.source) (S.faults self.new.source) }
@@ -187,6 +190,7 @@ impl<S: Source> Lines<S> {
     fn next_line(&mut self) -> Result<Option<Line>, LineFault>
         requires { self.old.fault ≡ None }
         ensures calm { self.new.fault ≡ None }
+        ensures room { length self.new.ahead ≤ most_ahead }
         ensures gives { GivesNext S.left self.old result self.new }
         ensures kept { S.faults self.old.source ≤ S.faults self.new.source }
         ensures read { IsErrOf result LineFault.Read → Rose (S.faults self.old.source) (S.faults self.new.source) }

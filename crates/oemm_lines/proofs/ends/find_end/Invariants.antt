@@ -1,6 +1,6 @@
 use Rattle.std.proofs.Common.{◌≡◌, ◌≤◌, ◌+◌, ◌-◌, length}
 use Rattle.oemm_lines.specs.Lines.{HasNoFeed}
-use Rattle.oemm_lines.specs.Stream.{left_with}
+use Rattle.oemm_lines.specs.Stream.{left_with, most_ahead}
 use Rattle.oemm_lines.proofs.ends.find_end.Given as goal
 
 abbrev pub invariant-loop-length : goal.invariant-loop-length
@@ -9,6 +9,7 @@ invariant-loop-length g l = record {
   short : l.seen ≤ l.limit;
   none : HasNoFeed l.ahead l.seen;
   left : left_with l.initial.ahead (g.S.Source.left l.initial.source) ≡ left_with l.ahead (g.S.Source.left l.source);
+  room : length l.ahead ≤ most_ahead;
   kept : g.S.Source.faults l.initial.source ≤ g.S.Source.faults l.source;
 }
 

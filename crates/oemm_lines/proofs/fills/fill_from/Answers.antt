@@ -8,6 +8,7 @@ loop-filled-preserved g c = record {
   in_room = omega arith;
   taken = filled_more _ _ _ _ _ _ _ _ _ c.loop-filled.invariant.taken c.in_ok-some_ahead.ensures.left c.copy_behind-count.ensures.bytes c.bytes.ensures c.skip.ensures;
   given = omega (arith, ap length c.skip.ensures, length-drop c.copy_behind-count.result c.some_ahead.new.ahead);
+  room = omega (arith, ap length c.skip.ensures, length-drop c.copy_behind-count.result c.some_ahead.new.ahead);
   kept = omega arith;
 }
 
