@@ -7,13 +7,12 @@ use Rattle.std.specs.FinSet as set
 use Rattle.std.specs.List.{filter, All, AllByRecursion}
 use Rattle.mesh_data.specs.declared.geometry.Edge.{Edge}
 use Rattle.mesh_data.specs.declared.geometry.Tri.{Tri}
-use Rattle.mesh_data.specs.Ascending.{in_order}
 use Rattle.mesh_data.specs.Manifold.{IsEachEdgeOnce}
 use Rattle.mesh_data.specs.Rings.{has_step}
 use Rattle.mesh_data.specs.Triangles.{IsProper, edge_cmp, same_edge, reversed, undirected, undirected_edges, directed_edges, each_once, border_edges}
 use Rattle.triangle_lists.proofs.Orders.{edge_cmp_total, edge_cmp-IsAntisymmetric}
-use Rattle.triangle_lists.proofs.Sorting.{Rises-in_order, IsSorted-from_rises}
-use Rattle.triangle_lists.proofs.EdgeSets.{same_edges, len-from_strict, IsStrictlySortedBy-once}
+use Rattle.triangle_lists.proofs.OnceLaws.{once_strict}
+use Rattle.triangle_lists.proofs.EdgeSets.{same_edges, len-from_strict}
 use Rattle.triangle_lists.proofs.Walks.{same_itself}
 use Rattle.triangle_lists.proofs.RingLaws.{contains_step, len_of_one_more}
 use Rattle.triangle_lists.proofs.RingTests.{has_step-once}
@@ -180,8 +179,7 @@ len_once (e ∷ es) once = omega (arith, len_of_one_more e es (once_head e es on
 -- where no edge comes twice, to put them in order and keep each once keeps all
 length-each_once : (es : List Edge) → AreOnce es → length (each_once es) ≡ length es
 length-each_once es once =
-    let strict = IsStrictlySortedBy-once (in_order edge_cmp es) (IsSorted-from_rises edge_cmp_total (in_order edge_cmp es) (Rises-in_order edge_cmp_total es)) in
-    sym (len-from_strict (each_once es) strict)
+    sym (len-from_strict (each_once es) (once_strict es))
     ∙ ap set.len (set.same_set edge_cmp_total edge_cmp-IsAntisymmetric (set.from_list (each_once es)) (set.from_list es) (λ q. contains_step (each_once es) q ∙ has_step-once es q ∙ sym (contains_step es q)))
     ∙ len_once es once
 

@@ -14,3 +14,4 @@ pub mod Groups
 pub mod Ringless
 pub mod EdgeCounts
 pub mod Rotations
+pub mod OnceLaws
