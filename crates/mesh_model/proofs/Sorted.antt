@@ -3,21 +3,17 @@ use Rattle.std.proofs.Common.{ℕ, not, List, ◌∷◌, map}
 use Rattle.std.specs.List.{filter}
 use Rattle.std.specs.List.Sorted.{IsSorted}
 use Rattle.mesh_data.specs.declared.geometry.Tri.{Tri}
-use Rattle.mesh_data.specs.Ascending.{in_order}
 use Rattle.mesh_data.specs.Edits.{put_for, collapsed_tris, flipped_tris}
 use Rattle.mesh_data.specs.Links.{has_both}
 use Rattle.mesh_data.specs.Triangles.{turned, tri_cmp}
 use Rattle.triangle_lists.proofs.Orders.{tri_cmp_total}
-use Rattle.triangle_lists.proofs.Sorting.{Rises-in_order, IsSorted-from_rises}
-
-pub sorted_in_order : (ts : List Tri) → IsSorted tri_cmp (in_order tri_cmp ts)
-sorted_in_order ts = IsSorted-from_rises tri_cmp_total (in_order tri_cmp ts) (Rises-in_order tri_cmp_total ts)
+use Rattle.triangle_lists.proofs.Sorting.{IsSorted-in_order}
 
 pub sorted_collapsed : (u v : ℕ) (ts : List Tri) → IsSorted tri_cmp (collapsed_tris u v ts)
 unfolding collapsed_tris
-sorted_collapsed u v ts = sorted_in_order (map (λ t. turned (put_for u v t)) (filter (λ t. not (has_both u v t)) ts))
+sorted_collapsed u v ts = IsSorted-in_order tri_cmp_total (map (λ t. turned (put_for u v t)) (filter (λ t. not (has_both u v t)) ts))
 
 pub sorted_flipped : (a b c d : ℕ) (ts : List Tri) → IsSorted tri_cmp (flipped_tris a b c d ts)
 unfolding flipped_tris
 sorted_flipped a b c d ts =
-    sorted_in_order (turned (record { a = a; b = d; c = c }) ∷ turned (record { a = d; b = b; c = c }) ∷ filter (λ t. not (has_both a b t)) ts)
+    IsSorted-in_order tri_cmp_total (turned (record { a = a; b = d; c = c }) ∷ turned (record { a = d; b = b; c = c }) ∷ filter (λ t. not (has_both a b t)) ts)

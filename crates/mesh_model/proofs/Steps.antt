@@ -17,6 +17,7 @@ use Rattle.mesh_data.specs.declared.edits.Reply.{Reply}
 use Rattle.mesh_data.specs.declared.edits.Reply.TheVariants.{Unheld, Frozen, Same, Apart, Border, Link, Closed, Folds, Dear, Edge, Outside, Done, DoneAt, Simplified}
 use Rattle.mesh_data.specs.Edits.{done_step, least_step, step_cmp}
 use Rattle.mesh_model.specs.Steps.{lesser, best_of}
+use Rattle.mesh_model.proofs.Audits.{equal_of_le}
 
 step_cmp_total : IsTotalOrder step_cmp
 step_cmp_total = then_total (on_total (λ s. s.cost) int_cmp_total) (then_total (on_total (λ s. s.u) nat_cmp_total) (on_total (λ s. s.v) nat_cmp_total))
@@ -33,11 +34,6 @@ turned_le : (r : Ordering) → is_le r ≡ false → is_le (ordering_reverse r) 
 turned_le Less h = absurd (false≢true (sym h))
 turned_le Equal h = absurd (false≢true (sym h))
 turned_le Greater h = refl
-
-equal_of_le : (r : Ordering) → is_le r ≡ true → is_le (ordering_reverse r) ≡ true → r ≡ Equal
-equal_of_le Less up down = absurd (false≢true down)
-equal_of_le Equal up down = refl
-equal_of_le Greater up down = absurd (false≢true up)
 
 reversed_self : (r : Ordering) → r ≡ ordering_reverse r → is_le r ≡ true
 reversed_self Less h = refl

@@ -12,7 +12,8 @@ use Rattle.mesh_data.specs.Triangles.{IsProper, IsBelow, tri_cmp, turned}
 use Rattle.mesh_model.proofs.Starts.{proper_started, below_started, triangles_started}
 use Rattle.mesh_model.specs.Totals.{HasPlanes}
 use Rattle.mesh_model.proofs.Shares.{planes_started}
-use Rattle.mesh_model.proofs.Sorted.{sorted_in_order}
+use Rattle.triangle_lists.proofs.Orders.{tri_cmp_total}
+use Rattle.triangle_lists.proofs.Sorting.{IsSorted-in_order}
 use Rattle.mesh_model.proofs.Vertices.{named_from-agree}
 use Rattle.mesh_model.proofs.plain_mesh.PlainMesh.from_soup.Goals as goal
 
@@ -40,7 +41,7 @@ invariant_of-result c =
       omega (arith, c.in_ok-tris.ensures.len, c.requires.faces),
       subst (λ (m : finite.FinMap nat_cmp Vertex). All (IsTriangleOf m) c.in_ok-tris.tris.items) (sym vertices) (subst (All (IsTriangleOf (finite.from_entries {R = nat_cmp} (named_from f 0 ps)))) (sym tris) all),
       subst HasPlanes (sym vertices) (planes_started f ps ts agree (omega (arith, ap length (sym tris), c.in_ok-tris.ensures.len, c.requires.faces)) c.in_ok-planes.ensures.bounded),
-      subst (IsSorted tri_cmp) (sym tris) (sorted_in_order (map turned c.args.faces.now)),
+      subst (IsSorted tri_cmp) (sym tris) (IsSorted-in_order tri_cmp_total (map turned c.args.faces.now)),
     )
 
 pub returns : goal.returns
