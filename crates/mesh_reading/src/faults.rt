@@ -1,7 +1,7 @@
 //! The faults that lines and limits make.
 
 ghost use Rattle.std.specs.Prelude.{◌≡◌};
-ghost use Rattle.mesh_reading.specs.Faults.{fault_of, most_mesh_bytes};
+ghost use Rattle.mesh_reading.specs.Faults.{fault_of};
 
 use mesh_data::{MeshFault, MeshWhy, What};
 use oemm_lines::LineFault;
@@ -20,16 +20,6 @@ pub fn fault_at(at: u64, why: MeshWhy) -> MeshFault
     ensures { result ≡ MeshFault.Text at why }
 {
     MeshFault::Text { at, why }
-}
-
-/// The fault of a mesh of which a byte past the limit is needed.
-pub fn too_many_bytes() -> MeshFault
-    ensures { result ≡ MeshFault.TooMany What.MeshBytes most_mesh_bytes }
-{
-    MeshFault::TooMany {
-        what: What::MeshBytes,
-        count: MOST_MESH_BYTES,
-    }
 }
 
 /// The fault of a mesh in which a fault of its lines stands: the budget of the lines is the limit that was passed.

@@ -8,4 +8,4 @@ mod faults;
 mod tests;
 
 pub use faces::{name_of, triangle_of};
-pub use faults::{MOST_ITEMS, MOST_MESH_BYTES, fault_at, fault_of_lines, too_many_bytes};
+pub use faults::{MOST_ITEMS, MOST_MESH_BYTES, fault_at, fault_of_lines};

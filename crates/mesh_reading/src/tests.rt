@@ -1,4 +1,4 @@
-use super::{MOST_MESH_BYTES, fault_at, fault_of_lines, name_of, too_many_bytes, triangle_of};
+use super::{MOST_MESH_BYTES, fault_at, fault_of_lines, name_of, triangle_of};
 use mesh_data::{MeshFault, MeshWhy, Name, Tri, What};
 use oemm_lines::LineFault;
 
@@ -55,7 +55,10 @@ fn faults_of_lines(rt: HostRuntime) {
             LineFault::Bytes {
                 taken: MOST_MESH_BYTES,
             },
-            too_many_bytes(),
+            MeshFault::TooMany {
+                what: What::MeshBytes,
+                count: MOST_MESH_BYTES,
+            },
         ),
         (LineFault::Memory, MeshFault::Memory),
     ];
