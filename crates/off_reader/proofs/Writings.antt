@@ -15,7 +15,7 @@ use Rattle.oemm_lines.specs.declared.parts.Line.{Line}
 use Rattle.oemm_lines.specs.Stream.{texts_of, word_in}
 use Rattle.mesh_reading.specs.Results.{◌>>=◌}
 use Rattle.off_reader.specs.Grammar.{mesh_of, from_head, from_counts, counted, counts_of, begun_by, body_of, item_of, vertex_of, face_of, is_head}
-use Rattle.off_reader.specs.Writes.{IsHead, WriteCounts, WriteVertices, WriteFaces, WriteMesh, stopped_reading}
+use Rattle.off_reader.specs.Writes.{IsHead, CountsStandAt, WriteCounts, WriteVertices, WriteFaces, WriteMesh, stopped_reading}
 use Rattle.mesh_reading.specs.Progress.{reading_of}
 use Rattle.off_reader.proofs.ItemSteps.{below_is_other, nothing_behind}
 
@@ -66,20 +66,24 @@ faces_read (l ∷ lines) (t ∷ faces) v f n end rest write within =
     ∙ ap (behind (Face t)) (faces_read lines faces v f (n + 1) end rest write.1 (omega (arith, within)))
     ∙ ap (λ m. items_before (map (λ t. Face t) (t ∷ faces)) (body_of v f m end rest)) number
 
--- the counts are read
-counts_on_head : (head : Line) (counts : ℕ × ℕ) (end : MeshFault) (lines : List Line) → WriteCounts (head ∷ []) counts → mesh_of end (head ∷ lines) ≡ counted (Ok counts) end lines
+-- the counts are read where they stand
+counts_on_head : (head l : Line) (place : ℕ) (end : MeshFault) (lines : List Line) → CountsStandAt (head ∷ []) l place → mesh_of end (head ∷ lines) ≡ counted (counts_of place l) end lines
 unfolding mesh_of from_head
-counts_on_head head counts end lines write = rw (write.0, lt-ltb 1 (length head.words) write.1, write.2) refl
+counts_on_head head l place end lines stand = rw (stand.2, stand.3, stand.0, lt-ltb 1 (length head.words) stand.1) refl
 
-counts_below : (head l : Line) (counts : ℕ × ℕ) (end : MeshFault) (lines : List Line) → WriteCounts (head ∷ l ∷ []) counts → mesh_of end (head ∷ l ∷ lines) ≡ counted (Ok counts) end lines
+counts_below : (head next l : Line) (place : ℕ) (end : MeshFault) (lines : List Line) → CountsStandAt (head ∷ next ∷ []) l place → mesh_of end (head ∷ next ∷ lines) ≡ counted (counts_of place l) end lines
 unfolding mesh_of from_head from_counts
-counts_below head l counts end lines write = rw (write.0, le-ltb 1 (length head.words) (omega (arith, write.1)), write.2) refl
+counts_below head next l place end lines stand = rw (stand.2, stand.3, stand.0, le-ltb 1 (length head.words) (omega (arith, stand.1))) refl
+
+counts_reached : (head : List Line) (l : Line) (place : ℕ) (end : MeshFault) (lines : List Line) → CountsStandAt head l place → mesh_of end (head ++ lines) ≡ counted (counts_of place l) end lines
+counts_reached [] l place end lines stand = absurd stand
+counts_reached (head ∷ []) l place end lines stand = counts_on_head head l place end lines stand
+counts_reached (head ∷ next ∷ []) l place end lines stand = counts_below head next l place end lines stand
+counts_reached (head ∷ next ∷ more ∷ others) l place end lines stand = absurd stand
 
 head_read : (head : List Line) (counts : ℕ × ℕ) (end : MeshFault) (lines : List Line) → WriteCounts head counts → mesh_of end (head ++ lines) ≡ counted (Ok counts) end lines
-head_read [] counts end lines write = absurd write
-head_read (head ∷ []) counts end lines write = counts_on_head head counts end lines write
-head_read (head ∷ l ∷ []) counts end lines write = counts_below head l counts end lines write
-head_read (head ∷ l ∷ more ∷ others) counts end lines write = absurd write
+head_read head counts end lines (l, place, stand, is) =
+    counts_reached head l place end lines stand ∙ ap (λ (r : Result (ℕ × ℕ) MeshFault). counted r end lines) is
 
 -- the mesh that lines write is read
 body_read : (vertex_lines face_lines rest : List Line) (points : List Point) (faces : List Tri) (end : MeshFault) → WriteVertices 0 vertex_lines points → WriteFaces (length points) 0 face_lines faces →
@@ -254,14 +258,14 @@ unfolding from_counts
 below_written head [] end first alone is = cc
 below_written head (l ∷ lines) end first alone is =
     let one : length head.words ≡ 1 = omega (arith, alone, head_has_word head first) in
-    counted_from (head ∷ l ∷ []) lines (counts_of 0 l) end (λ c counts. (first, one, counts)) is
+    counted_from (head ∷ l ∷ []) lines (counts_of 0 l) end (λ c counts. (l, 0, (first, one, refl, refl), counts)) is
 
 head_written : (head : Line) (lines : List Line) (end : MeshFault) → IsHead head → (1 < length head.words) ⊎ (length head.words ≤ 1) → (from_head head end lines).fault ≡ None →
     (points : List Point) × (faces : List Tri) × WriteMesh (head ∷ lines) points faces
 unfolding from_head
 head_written head lines end first (inl more) is =
     let here : counted (counts_of 1 head) end lines ≡ from_head head end lines = rw (lt-ltb 1 (length head.words) more) refl in
-    counted_from (head ∷ []) lines (counts_of 1 head) end (λ c counts. (first, more, counts)) (ap (λ (r : Reading). r.fault) here ∙ is)
+    counted_from (head ∷ []) lines (counts_of 1 head) end (λ c counts. (head, 1, (first, more, refl, refl), counts)) (ap (λ (r : Reading). r.fault) here ∙ is)
 head_written head lines end first (inr alone) is =
     let here : from_counts end lines ≡ from_head head end lines = rw (le-ltb 1 (length head.words) alone) refl in
     below_written head lines end first alone (ap (λ (r : Reading). r.fault) here ∙ is)
@@ -350,3 +354,16 @@ mesh_no_face head vertex_lines face_lines f points faces end written placed join
 pub mesh_head : (l : Line) (rest : List Line) (end : MeshFault) → is_head (slice_get (texts_of l) 0) ≡ false → mesh_of end (l ∷ rest) ≡ fault_alone (Text l.at Head)
 unfolding mesh_of
 mesh_head l rest end other = rw other refl
+
+-- the counts that are refused, or that are missing, and a mesh without words
+pub mesh_counts : (head rest : List Line) (l : Line) (place : ℕ) (end fault : MeshFault) → CountsStandAt head l place → counts_of place l ≡ Err fault → mesh_of end (head ++ rest) ≡ fault_alone fault
+mesh_counts head rest l place end fault stand is =
+    counts_reached head l place end rest stand ∙ ap (λ (r : Result (ℕ × ℕ) MeshFault). counted r end rest) is
+
+pub mesh_no_counts : (head : Line) (end : MeshFault) → IsHead head → length head.words ≡ 1 → mesh_of end (head ∷ []) ≡ fault_alone end
+unfolding mesh_of from_head from_counts
+mesh_no_counts head end first alone = rw (first, le-ltb 1 (length head.words) (omega (arith, alone))) refl
+
+pub mesh_nothing : (end : MeshFault) → mesh_of end [] ≡ fault_alone end
+unfolding mesh_of
+mesh_nothing end = refl

@@ -1,5 +1,5 @@
 -- A mesh as the lines with words that write it.
-use Rattle.std.specs.Prelude.{◌≡◌, ℕ, ◌+◌, ◌<◌, ◌++◌, true, List, [], ◌∷◌, length, map, slice_get, Some, None, Ok, ⊤}
+use Rattle.std.specs.Prelude.{◌≡◌, ℕ, ◌+◌, ◌<◌, ◌++◌, true, List, [], ◌∷◌, length, map, slice_get, Some, Ok, ⊤}
 use Rattle.std.specs.List.{filter}
 use Rattle.mesh_data.specs.declared.geometry.Point.{Point}
 use Rattle.mesh_data.specs.declared.geometry.Tri.{Tri}
@@ -15,12 +15,16 @@ use Rattle.off_reader.specs.Grammar.{counts_of, vertex_of, face_of, is_head, has
 abbrev pub IsHead : Line → Type 0
 IsHead l = is_head (slice_get (texts_of l) 0) ≡ true
 
+-- the counts are looked for on the last of these lines, from this place on: behind OFF, or on a line of their own
+abbrev pub CountsStandAt : List Line → Line → ℕ → Type 0
+CountsStandAt [] l place = ⊥
+CountsStandAt (head ∷ []) l place = IsHead head × (1 < length head.words) × (l ≡ head) × (place ≡ 1)
+CountsStandAt (head ∷ next ∷ []) l place = IsHead head × (length head.words ≡ 1) × (l ≡ next) × (place ≡ 0)
+CountsStandAt (head ∷ next ∷ more ∷ lines) l place = ⊥
+
 -- OFF and the counts stand on this line, or each on one of these two
 abbrev pub WriteCounts : List Line → ℕ × ℕ → Type 0
-WriteCounts [] counts = ⊥
-WriteCounts (head ∷ []) counts = IsHead head × (1 < length head.words) × (counts_of 1 head ≡ Ok counts)
-WriteCounts (head ∷ l ∷ []) counts = IsHead head × (length head.words ≡ 1) × (counts_of 0 l ≡ Ok counts)
-WriteCounts (head ∷ l ∷ more ∷ lines) counts = ⊥
+WriteCounts head counts = (l : Line) × (place : ℕ) × CountsStandAt head l place × (counts_of place l ≡ Ok counts)
 
 -- each of these lines writes one of these vertices, and the first has this number
 abbrev pub WriteVertices : ℕ → List Line → List Point → Type 0

@@ -14,5 +14,5 @@ mod reader;
 mod tests;
 mod values;
 
-pub use laws::{mesh_fault_laws, mesh_laws};
+pub use laws::{counts_laws, face_laws, mesh_fault_laws, mesh_laws, vertex_laws};
 pub use reader::OffReader;
