@@ -86,10 +86,10 @@ unfolding elements_passed
 elements_done o es i old all = ap (λ fs. option_map (elements_passed o fs) old) (drop_all i es all)
 
 -- what is left behind bytes that could be passed over
-record IsPassed (n : ℕ) (r s : Rest) : Type 0 where
-  is : s ≡ forward n r
-  there : n ≤ length r.bytes
-  limit : r.at + n ≤ most_mesh_bytes
+pub record IsPassed (n : ℕ) (r s : Rest) : Type 0 where
+  pub is : s ≡ forward n r
+  pub there : n ≤ length r.bytes
+  pub limit : r.at + n ≤ most_mesh_bytes
 
 record IsChosen (over cut : Bool) (r s : Rest) : Type 0 where
   within : over ≡ false
@@ -101,7 +101,7 @@ chosen_is true cut end r s e = absurd cc
 chosen_is false true end r s e = absurd cc
 chosen_is false false end r s e = record { within = refl; whole = refl; is = cc }
 
-passed_is : (n : ℕ) (r s : Rest) → passed n r ≡ Ok s → IsPassed n r s
+pub passed_is : (n : ℕ) (r s : Rest) → passed n r ≡ Ok s → IsPassed n r s
 passed_is n r s passes =
     let c = chosen_is _ _ (r.at + length r.bytes) (forward n r) s (sym (passed-chosen n r) ∙ passes) in
     let limit = c.within in

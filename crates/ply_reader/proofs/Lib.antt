@@ -5,4 +5,3 @@ pub mod RecordLaws
 pub mod BodyLaws
 pub mod LineSteps
 pub mod ItemLaws
-pub mod GrammarLaws

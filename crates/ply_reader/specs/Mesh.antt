@@ -1,5 +1,5 @@
 -- What a PLY file says, as a function of its bytes.
-use Rattle.std.specs.Prelude.{◌≡◌, ℕ, zero, suc, ◌+◌, ◌==◌, false, List, [], ◌∷◌, length, drop, codes, if◌then◌else◌, Result, Ok, Err, Bool}
+use Rattle.std.specs.Prelude.{◌≡◌, ℕ, zero, suc, ◌+◌, ◌==◌, false, List, [], ◌∷◌, length, take, drop, codes, if◌then◌else◌, Result, Ok, Err, Bool}
 use Rattle.std.specs.Str.{bytes_eq}
 use Rattle.mesh_data.specs.Reading.{Reading, behind, fault_alone, nothing_more}
 use Rattle.mesh_data.specs.declared.items.Item.{Item}
@@ -14,6 +14,10 @@ use Rattle.ply_reader.specs.declared.layout.Layout.{Layout}
 use Rattle.ply_reader.specs.declared.layout.Header.{Header}
 use Rattle.ply_reader.specs.Header.{nothing_declared, header_after, ends, layout_of}
 use Rattle.ply_reader.specs.Body.{Rest, forward, item_in}
+
+-- whether the first three bytes are ply
+abbrev pub begins_as_ply : List ℕ → Bool
+begins_as_ply bytes = bytes_eq (take 3 bytes) (codes "ply")
 
 -- the reading that begins with this item, or the fault in its place
 abbrev pub begun_by : Result (Item × Rest) MeshFault → (Rest → Reading) → Reading

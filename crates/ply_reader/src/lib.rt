@@ -1,15 +1,14 @@
 //! A reader of binary PLY meshes of either byte order.
 #![tactic(auto)]
 
-ghost use Rattle.std.specs.Prelude.{◌≡◌, codes, take};
-ghost use Rattle.std.specs.Str.{bytes_eq};
+ghost use Rattle.std.specs.Prelude.{◌≡◌};
+ghost use Rattle.ply_reader.specs.Mesh.{begins_as_ply};
 
 mod body;
 mod elements;
 mod feed;
 mod header;
 mod items;
-mod laws;
 mod layout;
 mod names;
 mod numbers;
@@ -21,12 +20,11 @@ mod start;
 mod tests;
 mod values;
 
-pub use laws::{ply_body_laws, ply_header_laws};
 pub use reader::PlyReader;
 
 /// Whether the first three bytes of a file are `ply`.
 pub fn is_ply(first: &[u8]) -> bool
-    ensures { result ≡ bytes_eq (take 3 first.now) (codes "ply") }
+    ensures { result ≡ begins_as_ply first.now }
 {
     first.starts_with(b"ply")
 }

@@ -1,17 +1,23 @@
 -- What follows of the grammar alone.
-use Rattle.std.proofs.Common.{◌≡◌, ℕ, ◌+◌, ◌-◌, ◌<◌, true, List, [], ◌∷◌, ◌++◌, length, Some, None, Ok, Err, refl, ap, sym, ◌∙◌, append-nil, arith}
+use Rattle.std.proofs.Common.{◌≡◌, ◌≢◌, ℕ, ◌+◌, ◌-◌, ◌<◌, ◌&&◌, true, false, List, [], ◌∷◌, ◌++◌, length, codes, Option, Some, None, Ok, Err, refl, ap, sym, ◌∙◌, append-nil, arith}
+use Rattle.std.specs.Option.{is_some}
+use Rattle.std.specs.Str.{bytes_eq}
+use Rattle.std.proofs.Math.Bool.{and-false}
 use Rattle.mesh_data.specs.Reading.{Reading, behind, nothing_more}
 use Rattle.mesh_data.specs.declared.items.Item.{Item}
 use Rattle.mesh_data.specs.declared.items.Item.TheVariants.{Counts}
 use Rattle.mesh_data.specs.declared.items.MeshFault.{MeshFault}
 use Rattle.oemm_lines.specs.declared.parts.Line.{Line}
 use Rattle.oemm_lines.specs.Stream.{texts_of}
+use Rattle.ply_reader.specs.declared.layout.ByteOrder.{ByteOrder}
 use Rattle.ply_reader.specs.declared.layout.Layout.{Layout}
 use Rattle.ply_reader.specs.declared.layout.Header.{Header}
 use Rattle.ply_reader.specs.Header.{ends, header_after, is_remark, layout_of}
 use Rattle.ply_reader.specs.Body.{Rest, item_in}
 use Rattle.ply_reader.specs.Mesh.{begun_by, behind_line, counted, from_header, items_of, laid, Stand}
+use Rattle.ply_laws.specs.Elements.{element_line, property_line, format_line}
 use Rattle.ply_reader.proofs.ItemLaws.{items_suc}
+use Rattle.ply_laws.proofs.HeaderLaws.{differ}
 
 pub blank_line : (h : Header) (at : ℕ) → header_after h at [] ≡ Ok h
 unfolding header_after
@@ -21,12 +27,35 @@ pub remark_line : (h : Header) (at : ℕ) (word : List ℕ) (words : List (List 
 unfolding header_after
 remark_line h at word words is = rw is refl
 
-ended : (h : Header) (line : Line) (lines : List Line) (fault : MeshFault) (r : Rest) → ends h (texts_of line) ≡ true → from_header fault (line ∷ lines) h r ≡ counted (layout_of h line.at (texts_of line)) (behind_line line r)
+-- a first word that ends no header
+on_by : (h : Header) (word : List ℕ) (words : List (List ℕ)) → bytes_eq word (codes "end_header") ≡ false → ends h (word ∷ words) ≡ false
+on_by h word words other = ap (λ b. is_some h.order && b) other ∙ and-false (is_some h.order)
+
+-- the line of an element, that of a property and that of the format
+pub element_on : (h : Header) (words : List (List ℕ)) → ends h (element_line words) ≡ false
+element_on h words = on_by h (codes "element") words refl
+
+pub property_on : (h : Header) (words : List (List ℕ)) → ends h (property_line words) ≡ false
+property_on h words = on_by h (codes "property") words refl
+
+pub format_on : (h : Header) (name : List ℕ) → ends h (format_line name) ≡ false
+format_on h name = on_by h (codes "format") (name ∷ codes "1.0" ∷ []) refl
+
+-- a line that begins otherwise
+pub other_on : (h : Header) (word : List ℕ) (words : List (List ℕ)) → word ≢ codes "end_header" → ends h (word ∷ words) ≡ false
+other_on h word words other = on_by h word words (differ word (codes "end_header") other)
+
+-- a line before that of the format
+pub unknown_on : (h : Header) (words : List (List ℕ)) → h.order ≡ None → ends h words ≡ false
+unknown_on h [] unknown = refl
+unknown_on h (word ∷ words) unknown = ap (λ (o : Option ByteOrder). is_some o && bytes_eq word (codes "end_header")) unknown
+
+pub header_ended : (h : Header) (line : Line) (lines : List Line) (fault : MeshFault) (r : Rest) → ends h (texts_of line) ≡ true → from_header fault (line ∷ lines) h r ≡ counted (layout_of h line.at (texts_of line)) (behind_line line r)
 unfolding from_header
-ended h line lines fault r is = rw is refl
+header_ended h line lines fault r is = rw is refl
 
 pub header_end : (h : Header) (line : Line) (lines others : List Line) (fault other : MeshFault) (r : Rest) → ends h (texts_of line) ≡ true → from_header fault (line ∷ lines) h r ≡ from_header other (line ∷ others) h r
-header_end h line lines others fault other r is = ended h line lines fault r is ∙ sym (ended h line others other r is)
+header_end h line lines others fault other r is = header_ended h line lines fault r is ∙ sym (header_ended h line others other r is)
 
 -- items in front of a reading
 abbrev led_by : List Item → Reading → Reading

@@ -1,6 +1,6 @@
-use Rattle.ply_reader.proofs.GrammarLaws.{items_whole, items_stopped}
+use Rattle.ply_laws.proofs.GrammarLaws.{items_whole, items_stopped}
 use Rattle.ply_reader.proofs.BodyLaws.{fixed_records}
-use Rattle.ply_reader.proofs.laws.ply_body_laws.Goals as goal
+use Rattle.ply_laws.proofs.record_laws.ply_body_laws.Goals as goal
 
 pub returns-clause-whole : goal.returns-clause-whole
 returns-clause-whole c = items_whole

@@ -1,0 +1,10 @@
+pub mod Places
+pub mod GrammarLaws
+pub mod LineLaws
+pub mod WholeLaws
+pub mod ClosedLaws
+pub mod HeaderLaws
+pub mod PropertyLaws
+pub mod LayoutLaws
+pub mod ElementLaws
+pub mod LeadLaws
