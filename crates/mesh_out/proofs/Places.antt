@@ -101,14 +101,6 @@ pub all_within :
 all_within names tris named =
     All-map (IsBelow (length names)) (renumbered names) tris (λ k t lt. (one_within names _ (named k t lt).0, one_within names _ (named k t lt).1, one_within names _ (named k t lt).2))
 
--- a position is at most the number of names
-one_below : (names : List ℕ) (v : ℕ) → position_of names v < length names + 1
-one_below names v = omega (arith, count_by-le-length (λ n. ltb n v) names)
-
-pub all_below : (names : List ℕ) (tris : List Tri) → All (IsBelow (length names + 1)) (map (renumbered names) tris)
-all_below names tris =
-    All-map (IsBelow (length names + 1)) (renumbered names) tris (λ k t lt. (one_below names _, one_below names _, one_below names _))
-
 -- a name of a mesh's vertices is among their names
 vertex_named : (m : Mesh) (v : ℕ) → finite.contains_key m.vertices v ≡ true → Contains (names_of m) v
 vertex_named m v has =

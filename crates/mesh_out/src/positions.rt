@@ -39,7 +39,6 @@ fn renumber_all(alloc: Global, names: &NameSet, tris: &[Tri]) -> Result<Vec<Tri>
 /// Want of memory.
 pub fn renumber(alloc: Global, names: &NameSet, tris: &[Tri]) -> Result<Tris, AllocError>
     ensures places { IfOk result (λ ts. ts ≡ map (renumbered names.now) tris.now) }
-    ensures below { IfOk result (All (IsBelow (length names.now + 1))) }
     ensures within { All (IsNamedBy names.now) tris.now → IfOk result (All (IsBelow (length names.now))) }
 {
     Ok(Tris::from_vec(renumber_all(alloc, names, tris)?))

@@ -7,7 +7,8 @@ use Rattle.fault_counts.specs.Told.{Told, Takes, IsAtEnd}
 use Rattle.mesh_data.specs.declared.geometry.Soup.{Soup}
 use Rattle.mesh_data.specs.declared.items.MeshFault.{MeshFault}
 use Rattle.mesh_data.specs.Reading.{soup}
-use Rattle.oemm_run.specs.Soup.{limited, soup_of, reading_in, begins_as_ply, GivesSoup}
+use Rattle.ply_reader.specs.Mesh.{begins_as_ply}
+use Rattle.oemm_run.specs.Soup.{limited, soup_of, reading_in, GivesSoup}
 
 -- fewer bytes than three in front are all of them, and so the first three are those of the front
 same_front : (front rest : List ℕ) → (length front < 3 → rest ≡ []) → take 3 (front ++ rest) ≡ take 3 front
@@ -19,7 +20,7 @@ same_front (a ∷ b ∷ c ∷ front) rest short = refl
 -- what is answered of the bytes of a front and of those behind it is answered of the source
 pub gives_behind_front :
     (before after : Told) (front : List ℕ) (is_ply : Bool) (r : Result Soup MeshFault) → Takes before after front →
-    (length front < 3 → IsAtEnd after) → is_ply ≡ bytes_eq (take 3 front) (codes "ply") →
+    (length front < 3 → IsAtEnd after) → is_ply ≡ begins_as_ply front →
     IfSome (option_map (λ rest. front ++ rest) after) (λ bytes. GivesSoup r (soup (limited (reading_in is_ply bytes)))) →
     IfSome before (λ bytes. GivesSoup r (soup_of bytes))
 unfolding soup_of

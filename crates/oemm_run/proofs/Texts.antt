@@ -1,8 +1,14 @@
 -- Texts that are written piece by piece.
-use Rattle.std.proofs.Common.{◌≡◌, ℕ, ℤ, List, ◌++◌, length, Result, Ok, Err, OnOk, ap, sym, ◌∙◌, append_assoc}
+use Rattle.std.proofs.Common.{◌≡◌, ℕ, ℤ, List, ◌++◌, length, map, All, Result, Ok, Err, IfOk, OnOk, ap, sym, subst, ◌∙◌, append_assoc}
 use Rattle.std.proofs.lemmas.List.{length-map}
+use Rattle.std.proofs.lemmas.Result.{IfOk-weaker}
 use Rattle.std.specs.FinMap as finite
-use Rattle.mesh_data.specs.Mesh.{Mesh, points_of, euler, border}
+use Rattle.mesh_data.specs.declared.geometry.Tri.{Tri}
+use Rattle.mesh_data.specs.Manifold.{IsTriangleOf}
+use Rattle.mesh_data.specs.Mesh.{Mesh, names_of, points_of, euler, border}
+use Rattle.mesh_data.specs.Triangles.{IsBelow}
+use Rattle.mesh_out.specs.MeshBytes.{renumbered, faces_of}
+use Rattle.mesh_out.proofs.Places.{faces_within}
 use Rattle.oemm_run.specs.Report.{summary, summary_line}
 
 -- a text of two pieces is written by its pieces
@@ -27,3 +33,10 @@ summary_of m points tris border_count e p t h b =
     ∙ ap (λ n. summary_line (finite.len m.vertices) n e border_count) t
     ∙ ap (λ x. summary_line (finite.len m.vertices) (length m.tris) x border_count) h
     ∙ ap (λ n. summary_line (finite.len m.vertices) (length m.tris) (euler m) n) b
+
+-- the faces of a mesh's file have places of its points
+pub faces_below : {E : Type 0} (m : Mesh) (names : List ℕ) (tris shown : List Tri) (r : Result (List Tri) E) → names ≡ names_of m → tris ≡ m.tris → shown ≡ tris → All (IsTriangleOf m.vertices) tris → IfOk r (λ faces. faces ≡ map (renumbered names) shown) → IfOk r (All (IsBelow (length (points_of m))))
+faces_below m names tris shown r ns ts is on put =
+    let same : map (renumbered names) shown ≡ faces_of m = cc in
+    IfOk-weaker r (λ faces. faces ≡ map (renumbered names) shown) (All (IsBelow (length (points_of m))))
+    (λ faces put. subst (All (IsBelow (length (points_of m)))) (sym (put ∙ same)) (faces_within m (subst (All (IsTriangleOf m.vertices)) ts on))) put

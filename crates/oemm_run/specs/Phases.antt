@@ -35,11 +35,11 @@ end_of_script script.Memory = Memory
 abbrev pub output : Told → ℕ → Bool → Output
 output held faults finished = record { held = held; faults = faults; finished = finished }
 
--- a mesh's points and faces are few enough to be written
+-- a mesh's points and faces are few enough to be written, and the faces have places of the points
 pub record IsWritable (texts : Texts) : Type 0 where
   pub points : length texts.points ≤ 16777216
   pub faces : length texts.faces ≤ 16777216
-  pub below : All (IsBelow 16777217) texts.faces
+  pub below : All (IsBelow (length texts.points)) texts.faces
 
 -- both counts of faults have not fallen
 pub record KeepsBoth (out out' report report' : Output) : Type 0 where

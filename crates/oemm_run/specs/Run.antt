@@ -138,6 +138,10 @@ RunGives words before after WriteReport = FailsAtReport words before after
 RunGives words before after (Limit what count) = HasMeshFault words before after (mesh.TooMany what count) ⊎ HasScriptFault words before (script.TooMany what count)
 RunGives words before after Memory = ⊤
 
+-- nothing is read of the script but where the words ask for a run and the mesh is a manifold, however the run ends
+abbrev pub MindsScript : List (List ℕ) → Outside → Outside → Type 0
+MindsScript words before after = (after.script ≡ before.script) ⊎ ((s : Soup) × HasManifold words before s)
+
 -- what an end leaves of the sinks: what comes before the writes leaves both as they were
 abbrev pub LeavesSinks : Outside → Outside → End → Type 0
 LeavesSinks before after Done = ⊤

@@ -1,6 +1,5 @@
 -- The points and faces of a mesh's source, up to the limits of this command.
-use Rattle.std.specs.Prelude.{◌≡◌, ℕ, ◌≤◌, ◌++◌, nat_lt, Bool, List, ◌∷◌, length, take, codes, All, Option, Some, None, Result, Ok, Err, IfSome, ⊤, if◌then◌else◌}
-use Rattle.std.specs.Str.{bytes_eq}
+use Rattle.std.specs.Prelude.{◌≡◌, ℕ, ◌≤◌, ◌++◌, nat_lt, Bool, List, ◌∷◌, length, All, Option, Some, None, Result, Ok, Err, IfSome, ⊤, if◌then◌else◌}
 use Rattle.mesh_data.specs.declared.items.Item.{Item}
 use Rattle.mesh_data.specs.declared.items.Item.TheVariants.{Counts}
 use Rattle.mesh_data.specs.declared.items.MeshFault.{MeshFault}
@@ -10,7 +9,7 @@ use Rattle.mesh_data.specs.Triangles.{IsProper, IsBelow}
 use Rattle.mesh_data.specs.Reading.{Reading, Given, fault_alone, most_items, soup}
 use Rattle.mesh_data.specs.declared.geometry.Soup.{Soup}
 use Rattle.off_reader.specs.Grammar.{off_reading}
-use Rattle.ply_reader.specs.Mesh.{ply_reading}
+use Rattle.ply_reader.specs.Mesh.{begins_as_ply, ply_reading}
 
 -- the greatest number of vertices of a mesh
 abbrev pub most_vertices : ℕ
@@ -57,10 +56,6 @@ GivesMeshFault (TooMany what count) reading = reading ≡ Err (TooMany what coun
 abbrev pub GivesSoup : Result Soup MeshFault → Result Soup MeshFault → Type 0
 GivesSoup (Ok s) reading = reading ≡ Ok s
 GivesSoup (Err fault) reading = GivesMeshFault fault reading
-
--- whether the first three bytes are ply
-abbrev pub begins_as_ply : List ℕ → Bool
-begins_as_ply bytes = bytes_eq (take 3 bytes) (codes "ply")
 
 -- what a mesh's bytes say in binary PLY, or in OFF
 abbrev pub reading_in : Bool → List ℕ → Reading

@@ -63,37 +63,42 @@ fn play_tasks(
     Ok(List::from_vec(journal))
 }
 
-/// The faces of a mesh's file.
+/// The faces of a mesh's file: as many as its triangles, of places of its points.
 fn faces_of(alloc: Global, mesh: &PlainMesh) -> Result<Tris, AllocError>
     ensures faces { IfOk result (λ faces. faces ≡ faces_of mesh.now) }
+    ensures count { IfOk result (λ faces. length faces ≡ length mesh.now.tris) }
     ensures few { IfOk result (λ faces. length faces ≤ 16777216) }
-    ensures below { IfOk result (All (IsBelow 16777217)) }
+    ensures below { IfOk result (All (IsBelow (length (points_of mesh.now)))) }
 {
     let names = mesh.names(alloc)?;
     let tris = mesh.tris(alloc)?;
     renumber(alloc, &names, tris.slice())
 }
 
-/// The line of a mesh's counts.
+/// The line of a mesh's counts, of which those of its points and faces are known.
 #[tactic(auto, using(crate::proofs::Texts::summary_of))]
-fn summary_of(alloc: Global, mesh: &PlainMesh) -> Result<String, AllocError>
+fn summary_of(
+    alloc: Global,
+    mesh: &PlainMesh,
+    points: usize,
+    faces: usize,
+) -> Result<String, AllocError>
+    requires points { points ≡ length (points_of mesh.now) }
+    requires faces { faces ≡ length mesh.now.tris }
     ensures { IfOk result (λ line. string_bytes line ≡ summary mesh.now) }
 {
-    let points = mesh.points(alloc)?;
-    let tris = mesh.tris(alloc)?;
     let euler = mesh.euler(alloc)?;
     let border = mesh.border(alloc)?;
     let mut line = String::new(alloc);
-    put_summary(&mut line, points.len(), tris.len(), euler, border.len())?;
+    put_summary(&mut line, points, faces, euler, border.len())?;
     Ok(line)
 }
 
-/// The journal's text, and the line of the mesh's counts.
-fn report_of(alloc: Global, mesh: &PlainMesh, journal: &Entries) -> Result<Bytes, AllocError>
+/// The journal's text, and a line behind it.
+fn report_of(alloc: Global, journal: &Entries, line: &str) -> Result<Bytes, AllocError>
     requires { length journal.now ≤ 2 ^ 32 }
-    ensures { IfOk result (λ bytes. bytes ≡ journal_text 0 journal.now ++ summary mesh.now) }
+    ensures { IfOk result (λ bytes. bytes ≡ journal_text 0 journal.now ++ line.now) }
 {
-    let line = summary_of(alloc, mesh)?;
     let mut text = journal_text(alloc, 0, journal)?.into_vec();
     text.extend_from_slice(line.as_bytes())?;
     Ok(List::from_vec(text))
@@ -112,9 +117,12 @@ pub fn texts_of(alloc: Global, mut mesh: PlainMesh, tasks: &[Task]) -> Result<Te
 {
     let cells = one_leaf(alloc)?;
     let journal = play_tasks(alloc, &mut mesh, &cells, tasks)?;
+    let points = mesh.points(alloc)?;
+    let faces = faces_of(alloc, &mesh)?;
+    let line = summary_of(alloc, &mesh, points.len(), faces.len())?;
     Ok(Texts {
-        points: mesh.points(alloc)?,
-        faces: faces_of(alloc, &mesh)?,
-        report: report_of(alloc, &mesh, &journal)?,
+        points,
+        faces,
+        report: report_of(alloc, &journal, line.as_str())?,
     })
 }

@@ -1,6 +1,6 @@
 //! The top call.
 
-ghost use Rattle.oemm_run.specs.Run.{RunGives, LeavesSinks};
+ghost use Rattle.oemm_run.specs.Run.{RunGives, LeavesSinks, MindsScript};
 ghost use Rattle.oemm_run.specs.Outside.{KeepsCounts};
 ghost use Rattle.oemm_run.specs.Laws.{Headline, IsComplete, TellsUsage, TellsMeshFault, TellsShape, TellsScriptFault};
 
@@ -24,6 +24,7 @@ fn run_phases<M: Source, S: Source, O: Sink, R: Sink>(
 ) -> (Io<M, S, O, R>, End)
     ensures gives { RunGives words.now (⟦<Io<M, S, O, R> as Seen>⟧.outside io) (⟦<Io<M, S, O, R> as Seen>⟧.outside result.0) result.1 }
     ensures leaves { LeavesSinks (⟦<Io<M, S, O, R> as Seen>⟧.outside io) (⟦<Io<M, S, O, R> as Seen>⟧.outside result.0) result.1 }
+    ensures script { MindsScript words.now (⟦<Io<M, S, O, R> as Seen>⟧.outside io) (⟦<Io<M, S, O, R> as Seen>⟧.outside result.0) }
     ensures kept { KeepsCounts (⟦<Io<M, S, O, R> as Seen>⟧.outside io) (⟦<Io<M, S, O, R> as Seen>⟧.outside result.0) }
 {
     let Some(form) = form_of(words) else {
@@ -67,6 +68,7 @@ pub fn run<M: Source, S: Source, O: Sink, R: Sink>(
     // What each end means, and what it leaves.
     ensures gives { RunGives words.now (⟦<Io<M, S, O, R> as Seen>⟧.outside io) (⟦<Io<M, S, O, R> as Seen>⟧.outside result.0) result.1 }
     ensures leaves { LeavesSinks (⟦<Io<M, S, O, R> as Seen>⟧.outside io) (⟦<Io<M, S, O, R> as Seen>⟧.outside result.0) result.1 }
+    ensures script { MindsScript words.now (⟦<Io<M, S, O, R> as Seen>⟧.outside io) (⟦<Io<M, S, O, R> as Seen>⟧.outside result.0) }
     ensures kept { KeepsCounts (⟦<Io<M, S, O, R> as Seen>⟧.outside io) (⟦<Io<M, S, O, R> as Seen>⟧.outside result.0) }
 
     // When each end comes, unless memory is wanting.
