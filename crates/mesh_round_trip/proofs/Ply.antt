@@ -13,11 +13,11 @@ use Rattle.oemm_lines.specs.Stream.{told_lines}
 use Rattle.mesh_out.specs.declared.form.Form.TheVariants.{Ply}
 use Rattle.mesh_out.specs.Form.{form_text}
 use Rattle.mesh_out.specs.Ply.{ply_opening, ply_vertices, ply_faces, ply_head, ply_vertex, ply_face}
-use Rattle.ply_reader.specs.declared.layout.ScalarType.TheVariants.{I16}
-use Rattle.ply_reader.specs.declared.layout.Axis.TheVariants.{X, Y}
-use Rattle.ply_reader.specs.declared.layout.Property.TheVariants.{Coordinate}
+use Rattle.ply_header.specs.declared.layout.ScalarType.TheVariants.{I16}
+use Rattle.ply_header.specs.declared.layout.Axis.TheVariants.{X, Y}
+use Rattle.ply_header.specs.declared.layout.Property.TheVariants.{Coordinate}
 use Rattle.mesh_reading.specs.Faults.{most_mesh_bytes, end_fault}
-use Rattle.ply_reader.specs.Header.{nothing_declared}
+use Rattle.ply_header.specs.Header.{nothing_declared}
 use Rattle.ply_reader.specs.Mesh.{from_first, laid, ply_reading}
 use Rattle.mesh_round_trip.specs.Whole.{IsWritable}
 use Rattle.mesh_reading.specs.Progress.{reading_of}

@@ -9,18 +9,18 @@ use Rattle.oemm_lines.specs.declared.parts.Line.{Line}
 use Rattle.oemm_lines.specs.Numbers.{whole_of}
 use Rattle.oemm_lines.specs.Stream.{Flow, line_of, told_lines, texts_of}
 use Rattle.oemm_lines.proofs.NumberLaws.{whole_of-decimal}
-use Rattle.ply_reader.specs.declared.layout.ByteOrder.TheVariants.{Little}
-use Rattle.ply_reader.specs.declared.layout.ScalarType.TheVariants.{I16}
-use Rattle.ply_reader.specs.declared.layout.Axis.TheVariants.{X, Y}
-use Rattle.ply_reader.specs.declared.layout.Property.{Property}
-use Rattle.ply_reader.specs.declared.layout.Property.TheVariants.{Coordinate}
-use Rattle.ply_reader.specs.declared.layout.Role.{Role}
-use Rattle.ply_reader.specs.declared.layout.Role.TheVariants.{Vertices, Faces}
-use Rattle.ply_reader.specs.declared.layout.Element.{Element}
-use Rattle.ply_reader.specs.declared.layout.Layout.{Layout}
-use Rattle.ply_reader.specs.declared.layout.Header.{Header}
-use Rattle.ply_reader.specs.Layout.{scalar_named, axis_named, names_corners}
-use Rattle.ply_reader.specs.Header.{nothing_declared, order_of, role_named, limited, count_of, with_element, property_named, listed, property_of, with_property, declared_by, header_after, ends, missing, laid_out, layout_of}
+use Rattle.ply_header.specs.declared.layout.ByteOrder.TheVariants.{Little}
+use Rattle.ply_header.specs.declared.layout.ScalarType.TheVariants.{I16}
+use Rattle.ply_header.specs.declared.layout.Axis.TheVariants.{X, Y}
+use Rattle.ply_header.specs.declared.layout.Property.{Property}
+use Rattle.ply_header.specs.declared.layout.Property.TheVariants.{Coordinate}
+use Rattle.ply_header.specs.declared.layout.Role.{Role}
+use Rattle.ply_header.specs.declared.layout.Role.TheVariants.{Vertices, Faces}
+use Rattle.ply_header.specs.declared.layout.Element.{Element}
+use Rattle.ply_header.specs.declared.layout.Layout.{Layout}
+use Rattle.ply_header.specs.declared.layout.Header.{Header}
+use Rattle.ply_header.specs.Layout.{scalar_named, axis_named, names_corners}
+use Rattle.ply_header.specs.Header.{nothing_declared, order_of, role_named, limited, count_of, with_element, property_named, listed, property_of, with_property, declared_by, header_after, ends, missing, laid_out, layout_of}
 use Rattle.mesh_reading.specs.Faults.{most_mesh_bytes}
 use Rattle.ply_reader.specs.Body.{Rest, forward}
 use Rattle.ply_reader.specs.Mesh.{counted, declared, laid, end_size, behind_line, is_first, from_header, from_first}

@@ -7,7 +7,7 @@ use Rattle.mesh_data.specs.declared.items.Item.{Item}
 use Rattle.mesh_data.specs.declared.items.Item.TheVariants.{Vertex, Face}
 use Rattle.mesh_data.specs.Reading.{Reading, behind, nothing_more, most_items}
 use Rattle.mesh_out.specs.Ply.{ply_vertex, ply_face}
-use Rattle.ply_reader.specs.declared.layout.Layout.{Layout}
+use Rattle.ply_header.specs.declared.layout.Layout.{Layout}
 use Rattle.mesh_reading.specs.Faults.{most_mesh_bytes}
 use Rattle.ply_reader.specs.Body.{Rest, item_in}
 use Rattle.ply_reader.specs.Mesh.{begun_by, items_of}

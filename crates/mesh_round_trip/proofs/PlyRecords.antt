@@ -15,14 +15,14 @@ use Rattle.mesh_data.specs.Octree.{on_grid, IsOnGrid}
 use Rattle.mesh_data.specs.Reading.{most_items}
 use Rattle.mesh_data.specs.Triangles.{IsProper, IsBelow}
 use Rattle.mesh_out.specs.Ply.{short, int, ply_vertex, ply_face}
-use Rattle.ply_reader.specs.declared.layout.ByteOrder.TheVariants.{Little}
-use Rattle.ply_reader.specs.declared.layout.ScalarType.TheVariants.{U8, I16, I32}
-use Rattle.ply_reader.specs.declared.layout.Axis.{Axis}
-use Rattle.ply_reader.specs.declared.layout.Axis.TheVariants.{X, Y, Z}
-use Rattle.ply_reader.specs.declared.layout.Property.{Property}
-use Rattle.ply_reader.specs.declared.layout.Property.TheVariants.{Coordinate, Corners}
-use Rattle.ply_reader.specs.declared.layout.Role.TheVariants.{Vertices, Faces}
-use Rattle.ply_reader.specs.declared.layout.Layout.{Layout}
+use Rattle.ply_header.specs.declared.layout.ByteOrder.TheVariants.{Little}
+use Rattle.ply_header.specs.declared.layout.ScalarType.TheVariants.{U8, I16, I32}
+use Rattle.ply_header.specs.declared.layout.Axis.{Axis}
+use Rattle.ply_header.specs.declared.layout.Axis.TheVariants.{X, Y, Z}
+use Rattle.ply_header.specs.declared.layout.Property.{Property}
+use Rattle.ply_header.specs.declared.layout.Property.TheVariants.{Coordinate, Corners}
+use Rattle.ply_header.specs.declared.layout.Role.TheVariants.{Vertices, Faces}
+use Rattle.ply_header.specs.declared.layout.Layout.{Layout}
 use Rattle.ply_reader.specs.declared.values.Values.{Values}
 use Rattle.ply_reader.specs.declared.values.Record.{Record}
 use Rattle.mesh_reading.specs.Results.{◌>>=◌}

@@ -8,13 +8,13 @@ use Rattle.mesh_data.specs.declared.items.MeshFault.{MeshFault}
 use Rattle.mesh_data.specs.declared.items.MeshFault.TheVariants.{Text, TooMany}
 use Rattle.mesh_reading.specs.Results.{◌>>=◌, only_if}
 use Rattle.oemm_lines.specs.Numbers.{whole_of}
-use Rattle.ply_reader.specs.declared.layout.ByteOrder.{ByteOrder}
-use Rattle.ply_reader.specs.declared.layout.Role.{Role}
-use Rattle.ply_reader.specs.declared.layout.Role.TheVariants.{Vertices, Faces, Foreign}
-use Rattle.ply_reader.specs.declared.layout.Element.{Element}
-use Rattle.ply_reader.specs.declared.layout.Header.{Header}
-use Rattle.ply_reader.specs.Limits.{HasFew}
-use Rattle.ply_reader.specs.Header.{at_line_end, closed, count_of, declared_by, header_after, is_remark, last_count_of, limited, role_fault, role_named, with_element}
+use Rattle.ply_header.specs.declared.layout.ByteOrder.{ByteOrder}
+use Rattle.ply_header.specs.declared.layout.Role.{Role}
+use Rattle.ply_header.specs.declared.layout.Role.TheVariants.{Vertices, Faces, Foreign}
+use Rattle.ply_header.specs.declared.layout.Element.{Element}
+use Rattle.ply_header.specs.declared.layout.Header.{Header}
+use Rattle.ply_header.specs.Limits.{HasFew}
+use Rattle.ply_header.specs.Header.{at_line_end, closed, count_of, declared_by, header_after, is_remark, last_count_of, limited, role_fault, role_named, with_element}
 use Rattle.ply_laws.specs.Elements.{HasFace, HasVertex, MayCome, element_line}
 use Rattle.ply_laws.proofs.ClosedLaws.{has_vertex, has_no_face, has_no_vertex}
 use Rattle.ply_laws.proofs.HeaderLaws.{element_declares, differ, some_there}

@@ -9,10 +9,10 @@ use Rattle.mesh_data.specs.declared.items.Item.TheVariants.{Counts}
 use Rattle.mesh_data.specs.declared.items.MeshFault.{MeshFault}
 use Rattle.oemm_lines.specs.declared.parts.Line.{Line}
 use Rattle.oemm_lines.specs.Stream.{texts_of}
-use Rattle.ply_reader.specs.declared.layout.ByteOrder.{ByteOrder}
-use Rattle.ply_reader.specs.declared.layout.Layout.{Layout}
-use Rattle.ply_reader.specs.declared.layout.Header.{Header}
-use Rattle.ply_reader.specs.Header.{ends, header_after, is_remark, layout_of}
+use Rattle.ply_header.specs.declared.layout.ByteOrder.{ByteOrder}
+use Rattle.ply_header.specs.declared.layout.Layout.{Layout}
+use Rattle.ply_header.specs.declared.layout.Header.{Header}
+use Rattle.ply_header.specs.Header.{ends, header_after, is_remark, layout_of}
 use Rattle.ply_reader.specs.Body.{Rest, item_in}
 use Rattle.ply_reader.specs.Mesh.{begun_by, behind_line, counted, from_header, items_of, laid, Stand}
 use Rattle.ply_laws.specs.Elements.{element_line, property_line, format_line}

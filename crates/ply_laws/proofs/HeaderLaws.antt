@@ -8,17 +8,17 @@ use Rattle.mesh_data.specs.declared.items.MeshWhy.TheVariants.{Ascii, HeadLine, 
 use Rattle.mesh_data.specs.declared.items.MeshFault.{MeshFault}
 use Rattle.mesh_data.specs.declared.items.MeshFault.TheVariants.{Text}
 use Rattle.mesh_reading.specs.Results.{◌>>=◌}
-use Rattle.ply_reader.specs.declared.layout.ByteOrder.{ByteOrder}
-use Rattle.ply_reader.specs.declared.layout.ByteOrder.TheVariants.{Little, Big}
-use Rattle.ply_reader.specs.declared.layout.ScalarType.{ScalarType}
-use Rattle.ply_reader.specs.declared.layout.Axis.{Axis}
-use Rattle.ply_reader.specs.declared.layout.PropertyType.{PropertyType}
-use Rattle.ply_reader.specs.declared.layout.PropertyType.TheVariants as value
-use Rattle.ply_reader.specs.declared.layout.Role.TheVariants.{Vertices, Faces}
-use Rattle.ply_reader.specs.declared.layout.Element.{Element}
-use Rattle.ply_reader.specs.declared.layout.Header.{Header}
-use Rattle.ply_reader.specs.Layout.{scalar_named, axis_named, names_corners}
-use Rattle.ply_reader.specs.Header.{closed, declared_by, ends, format_of, header_after, is_remark, laid_out, layout_of, listed, order_of, property_named, property_of, role_named, with_element, with_property}
+use Rattle.ply_header.specs.declared.layout.ByteOrder.{ByteOrder}
+use Rattle.ply_header.specs.declared.layout.ByteOrder.TheVariants.{Little, Big}
+use Rattle.ply_header.specs.declared.layout.ScalarType.{ScalarType}
+use Rattle.ply_header.specs.declared.layout.Axis.{Axis}
+use Rattle.ply_header.specs.declared.layout.PropertyType.{PropertyType}
+use Rattle.ply_header.specs.declared.layout.PropertyType.TheVariants as value
+use Rattle.ply_header.specs.declared.layout.Role.TheVariants.{Vertices, Faces}
+use Rattle.ply_header.specs.declared.layout.Element.{Element}
+use Rattle.ply_header.specs.declared.layout.Header.{Header}
+use Rattle.ply_header.specs.Layout.{scalar_named, axis_named, names_corners}
+use Rattle.ply_header.specs.Header.{closed, declared_by, ends, format_of, header_after, is_remark, laid_out, layout_of, listed, order_of, property_named, property_of, role_named, with_element, with_property}
 use Rattle.ply_laws.specs.Elements.{HasVertex, HasFace, HasCoordinate, HasCorners, IsLast, WriteType, element_line, property_line, format_line}
 use Rattle.ply_laws.proofs.ClosedLaws.{is_closed, has_vertex, has_face, has_no_vertex, has_no_face}
 

@@ -8,13 +8,13 @@ use Rattle.mesh_data.specs.declared.items.MeshWhy.TheVariants.{HeadLine, NoPrope
 use Rattle.mesh_data.specs.declared.items.MeshFault.{MeshFault}
 use Rattle.mesh_data.specs.declared.items.MeshFault.TheVariants.{Text}
 use Rattle.mesh_reading.specs.Results.{◌>>=◌}
-use Rattle.ply_reader.specs.declared.layout.ByteOrder.{ByteOrder}
-use Rattle.ply_reader.specs.declared.layout.Axis.TheVariants.{X, Y, Z}
-use Rattle.ply_reader.specs.declared.layout.Property.{Property}
-use Rattle.ply_reader.specs.declared.layout.Element.{Element}
-use Rattle.ply_reader.specs.declared.layout.Layout.{Layout}
-use Rattle.ply_reader.specs.declared.layout.Header.{Header}
-use Rattle.ply_reader.specs.Header.{at_line_end, closed, ends, is_along, is_corners, laid_out, layout_of, layout_with, missing, unless}
+use Rattle.ply_header.specs.declared.layout.ByteOrder.{ByteOrder}
+use Rattle.ply_header.specs.declared.layout.Axis.TheVariants.{X, Y, Z}
+use Rattle.ply_header.specs.declared.layout.Property.{Property}
+use Rattle.ply_header.specs.declared.layout.Element.{Element}
+use Rattle.ply_header.specs.declared.layout.Layout.{Layout}
+use Rattle.ply_header.specs.declared.layout.Header.{Header}
+use Rattle.ply_header.specs.Header.{at_line_end, closed, ends, is_along, is_corners, laid_out, layout_of, layout_with, missing, unless}
 use Rattle.ply_laws.specs.Elements.{Declares, HasCoordinate, HasCorners, HasPlace}
 use Rattle.ply_laws.proofs.ClosedLaws.{is_closed}
 use Rattle.ply_laws.proofs.HeaderLaws.{some_there, both_true, false_unless}

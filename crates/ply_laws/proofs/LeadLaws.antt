@@ -9,12 +9,12 @@ use Rattle.mesh_data.specs.declared.items.MeshFault.TheVariants.{Text}
 use Rattle.mesh_reading.specs.Results.{◌>>=◌}
 use Rattle.oemm_lines.specs.declared.parts.Line.{Line}
 use Rattle.oemm_lines.specs.Stream.{texts_of}
-use Rattle.ply_reader.specs.declared.layout.ByteOrder.{ByteOrder}
-use Rattle.ply_reader.specs.declared.layout.Role.{Role}
-use Rattle.ply_reader.specs.declared.layout.Role.TheVariants.{Vertices, Faces, Foreign}
-use Rattle.ply_reader.specs.declared.layout.Element.{Element}
-use Rattle.ply_reader.specs.declared.layout.Header.{Header}
-use Rattle.ply_reader.specs.Header.{closed, declared_by, format_of, header_after, is_remark, last_count_of, longer, nothing_declared, property_of, role_fault, role_named, unless, with_element, with_property}
+use Rattle.ply_header.specs.declared.layout.ByteOrder.{ByteOrder}
+use Rattle.ply_header.specs.declared.layout.Role.{Role}
+use Rattle.ply_header.specs.declared.layout.Role.TheVariants.{Vertices, Faces, Foreign}
+use Rattle.ply_header.specs.declared.layout.Element.{Element}
+use Rattle.ply_header.specs.declared.layout.Header.{Header}
+use Rattle.ply_header.specs.Header.{closed, declared_by, format_of, header_after, is_remark, last_count_of, longer, nothing_declared, property_of, role_fault, role_named, unless, with_element, with_property}
 use Rattle.ply_laws.specs.Elements.{HasVertex, element_line}
 use Rattle.ply_laws.specs.Lines.{Lead}
 use Rattle.ply_laws.proofs.ClosedLaws.{is_vertices, is_faces, latest, is_closed, has_no_vertex, is_none_unless}

@@ -6,9 +6,9 @@ use Rattle.mesh_data.specs.declared.items.MeshFault.{MeshFault}
 use Rattle.mesh_data.specs.declared.items.MeshFault.TheVariants.{Text}
 use Rattle.oemm_lines.specs.declared.parts.Line.{Line}
 use Rattle.oemm_lines.specs.Stream.{texts_of}
-use Rattle.ply_reader.specs.declared.layout.Layout.{Layout}
-use Rattle.ply_reader.specs.declared.layout.Header.{Header}
-use Rattle.ply_reader.specs.Header.{nothing_declared, ends, header_after, layout_of}
+use Rattle.ply_header.specs.declared.layout.Layout.{Layout}
+use Rattle.ply_header.specs.declared.layout.Header.{Header}
+use Rattle.ply_header.specs.Header.{nothing_declared, ends, header_after, layout_of}
 use Rattle.ply_reader.specs.Body.{Rest}
 use Rattle.ply_reader.specs.Mesh.{behind_line, counted, declared, from_first, from_header, is_first, laid, ply_reading}
 use Rattle.ply_laws.specs.Lines.{behind_lines, left_behind, ply_end, ply_lines, Lead, Leads}

@@ -10,16 +10,16 @@ use Rattle.mesh_data.specs.declared.items.MeshFault.{MeshFault}
 use Rattle.mesh_data.specs.declared.items.MeshFault.TheVariants.{Text}
 use Rattle.mesh_data.specs.declared.items.MeshWhy.TheVariants.{OutOfRange, NotTriangle}
 use Rattle.mesh_reading.specs.Results.{◌>>=◌}
-use Rattle.ply_reader.specs.declared.layout.ByteOrder.{ByteOrder}
-use Rattle.ply_reader.specs.declared.layout.ScalarType.{ScalarType}
-use Rattle.ply_reader.specs.declared.layout.Axis.{Axis}
-use Rattle.ply_reader.specs.declared.layout.Axis.TheVariants.{X, Y, Z}
-use Rattle.ply_reader.specs.declared.layout.Property.{Property}
-use Rattle.ply_reader.specs.declared.layout.Property.TheVariants.{Coordinate, Corners, Single, Many}
+use Rattle.ply_header.specs.declared.layout.ByteOrder.{ByteOrder}
+use Rattle.ply_header.specs.declared.layout.ScalarType.{ScalarType}
+use Rattle.ply_header.specs.declared.layout.Axis.{Axis}
+use Rattle.ply_header.specs.declared.layout.Axis.TheVariants.{X, Y, Z}
+use Rattle.ply_header.specs.declared.layout.Property.{Property}
+use Rattle.ply_header.specs.declared.layout.Property.TheVariants.{Coordinate, Corners, Single, Many}
 use Rattle.ply_reader.specs.declared.values.Values.{Values}
 use Rattle.ply_reader.specs.declared.values.Record.{Record}
-use Rattle.ply_reader.specs.Layout.{size_of, same_axis}
-use Rattle.ply_reader.specs.Header.{is_along, is_corners}
+use Rattle.ply_header.specs.Layout.{size_of, same_axis}
+use Rattle.ply_header.specs.Header.{is_along, is_corners}
 use Rattle.ply_reader.specs.Body.{Rest, forward, passed, number_of, number_in, moved_along, with_coordinate, coordinate_in, list_count, count_in, list_passed, triangle_at, indices_in, corners_in, property_in, properties_in}
 use Rattle.ply_laws.specs.Records.{width_of, HaveWidth, coordinate_along}
 use Rattle.ply_reader.proofs.BodyLaws.{passed_is}

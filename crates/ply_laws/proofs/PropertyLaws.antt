@@ -4,16 +4,16 @@ use Rattle.std.specs.List.{list_any}
 use Rattle.mesh_data.specs.declared.items.MeshWhy.TheVariants.{HeadLine, FloatCoordinate, Kind}
 use Rattle.mesh_data.specs.declared.items.MeshFault.{MeshFault}
 use Rattle.mesh_data.specs.declared.items.MeshFault.TheVariants.{Text}
-use Rattle.ply_reader.specs.declared.layout.ByteOrder.{ByteOrder}
-use Rattle.ply_reader.specs.declared.layout.ScalarType.{ScalarType}
-use Rattle.ply_reader.specs.declared.layout.Axis.{Axis}
-use Rattle.ply_reader.specs.declared.layout.PropertyType.{PropertyType}
-use Rattle.ply_reader.specs.declared.layout.PropertyType.TheVariants as value
-use Rattle.ply_reader.specs.declared.layout.Role.TheVariants.{Vertices, Faces}
-use Rattle.ply_reader.specs.declared.layout.Element.{Element}
-use Rattle.ply_reader.specs.declared.layout.Header.{Header}
-use Rattle.ply_reader.specs.Layout.{is_float, axis_named, names_corners}
-use Rattle.ply_reader.specs.Header.{coordinate_of, corners_of, header_after, is_along, is_corners, property_named, with_property}
+use Rattle.ply_header.specs.declared.layout.ByteOrder.{ByteOrder}
+use Rattle.ply_header.specs.declared.layout.ScalarType.{ScalarType}
+use Rattle.ply_header.specs.declared.layout.Axis.{Axis}
+use Rattle.ply_header.specs.declared.layout.PropertyType.{PropertyType}
+use Rattle.ply_header.specs.declared.layout.PropertyType.TheVariants as value
+use Rattle.ply_header.specs.declared.layout.Role.TheVariants.{Vertices, Faces}
+use Rattle.ply_header.specs.declared.layout.Element.{Element}
+use Rattle.ply_header.specs.declared.layout.Header.{Header}
+use Rattle.ply_header.specs.Layout.{is_float, axis_named, names_corners}
+use Rattle.ply_header.specs.Header.{coordinate_of, corners_of, header_after, is_along, is_corners, property_named, with_property}
 use Rattle.ply_laws.specs.Elements.{HasCoordinate, HasCorners, IsLast, WriteType, property_line}
 use Rattle.ply_laws.proofs.HeaderLaws.{property_declares, false_unless, property_fails, typed}
 

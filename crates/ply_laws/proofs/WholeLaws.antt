@@ -8,9 +8,9 @@ use Rattle.mesh_data.specs.declared.items.MeshFault.{MeshFault}
 use Rattle.mesh_data.specs.declared.items.MeshFault.TheVariants.{Text}
 use Rattle.oemm_lines.specs.declared.parts.Line.{Line}
 use Rattle.oemm_lines.specs.Stream.{texts_of}
-use Rattle.ply_reader.specs.declared.layout.Layout.{Layout}
-use Rattle.ply_reader.specs.declared.layout.Header.{Header}
-use Rattle.ply_reader.specs.Header.{nothing_declared, ends, header_after, layout_of}
+use Rattle.ply_header.specs.declared.layout.Layout.{Layout}
+use Rattle.ply_header.specs.declared.layout.Header.{Header}
+use Rattle.ply_header.specs.Header.{nothing_declared, ends, header_after, layout_of}
 use Rattle.ply_reader.specs.Body.{Rest, item_in}
 use Rattle.ply_reader.specs.Mesh.{begun_by, behind_line, counted, declared, from_first, from_header, is_first, items_of, laid, ply_reading, Stand}
 use Rattle.ply_laws.specs.Lines.{behind_lines, left_behind, ply_end, ply_lines, Lead, WritesPly}

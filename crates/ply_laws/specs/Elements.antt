@@ -1,16 +1,16 @@
 -- What the lines of a header have declared, and the forms of its lines.
 use Rattle.std.specs.Prelude.{◌≡◌, ℕ, ◌⊎◌, true, false, List, [], ◌∷◌, codes, Some, ⊤}
 use Rattle.std.specs.List.{list_any}
-use Rattle.ply_reader.specs.declared.layout.Axis.{Axis}
-use Rattle.ply_reader.specs.declared.layout.Axis.TheVariants.{X, Y, Z}
-use Rattle.ply_reader.specs.declared.layout.PropertyType.{PropertyType}
-use Rattle.ply_reader.specs.declared.layout.PropertyType.TheVariants as value
-use Rattle.ply_reader.specs.declared.layout.Role.{Role}
-use Rattle.ply_reader.specs.declared.layout.Role.TheVariants.{Vertices, Faces, Foreign}
-use Rattle.ply_reader.specs.declared.layout.Element.{Element}
-use Rattle.ply_reader.specs.declared.layout.Header.{Header}
-use Rattle.ply_reader.specs.Layout.{is_float, scalar_named}
-use Rattle.ply_reader.specs.Header.{closed, is_along, is_corners}
+use Rattle.ply_header.specs.declared.layout.Axis.{Axis}
+use Rattle.ply_header.specs.declared.layout.Axis.TheVariants.{X, Y, Z}
+use Rattle.ply_header.specs.declared.layout.PropertyType.{PropertyType}
+use Rattle.ply_header.specs.declared.layout.PropertyType.TheVariants as value
+use Rattle.ply_header.specs.declared.layout.Role.{Role}
+use Rattle.ply_header.specs.declared.layout.Role.TheVariants.{Vertices, Faces, Foreign}
+use Rattle.ply_header.specs.declared.layout.Element.{Element}
+use Rattle.ply_header.specs.declared.layout.Header.{Header}
+use Rattle.ply_header.specs.Layout.{is_float, scalar_named}
+use Rattle.ply_header.specs.Header.{closed, is_along, is_corners}
 
 -- the element was declared last, so that the properties to come are its own, and it has this role
 abbrev pub IsLast : Header → Role → Element → Type 0

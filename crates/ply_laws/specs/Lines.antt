@@ -5,9 +5,9 @@ use Rattle.mesh_data.specs.declared.items.MeshFault.{MeshFault}
 use Rattle.oemm_lines.specs.declared.parts.Line.{Line}
 use Rattle.oemm_lines.specs.Stream.{texts_of, told_lines}
 use Rattle.mesh_reading.specs.Faults.{end_fault, most_mesh_bytes}
-use Rattle.ply_reader.specs.declared.layout.Layout.{Layout}
-use Rattle.ply_reader.specs.declared.layout.Header.{Header}
-use Rattle.ply_reader.specs.Header.{nothing_declared, header_after, ends, layout_of}
+use Rattle.ply_header.specs.declared.layout.Layout.{Layout}
+use Rattle.ply_header.specs.declared.layout.Header.{Header}
+use Rattle.ply_header.specs.Header.{nothing_declared, header_after, ends, layout_of}
 use Rattle.ply_reader.specs.Body.{Rest}
 use Rattle.ply_reader.specs.Mesh.{behind_line, is_first, Stand}
 

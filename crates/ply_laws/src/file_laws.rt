@@ -5,9 +5,9 @@ ghost use Rattle.mesh_data.specs.declared.items.Item.{Item};
 ghost use Rattle.mesh_data.specs.declared.items.Item.TheVariants.{Counts};
 ghost use Rattle.mesh_data.specs.Reading.{fault_alone};
 ghost use Rattle.oemm_lines.specs.Stream.{texts_of};
-ghost use Rattle.ply_reader.specs.declared.layout.Header.{Header};
-ghost use Rattle.ply_reader.specs.declared.layout.Layout.{Layout};
-ghost use Rattle.ply_reader.specs.Header.{ends, header_after, layout_of};
+ghost use Rattle.ply_header.specs.declared.layout.Header.{Header};
+ghost use Rattle.ply_header.specs.declared.layout.Layout.{Layout};
+ghost use Rattle.ply_header.specs.Header.{ends, header_after, layout_of};
 ghost use Rattle.ply_reader.specs.Mesh.{behind_line, is_first, laid, ply_reading};
 ghost use Rattle.ply_laws.specs.Lines.{left_behind, ply_end, ply_lines, Leads, WritesPly};
 

@@ -9,14 +9,14 @@ use Rattle.mesh_data.specs.declared.items.MeshFault.{MeshFault}
 use Rattle.oemm_lines.specs.Stream.{left_of}
 use Rattle.mesh_reading.specs.Results.{◌>>=◌}
 use Rattle.mesh_reading.specs.Faults.{most_mesh_bytes}
-use Rattle.ply_reader.specs.declared.layout.ByteOrder.{ByteOrder}
-use Rattle.ply_reader.specs.declared.layout.ScalarType.{ScalarType}
-use Rattle.ply_reader.specs.declared.layout.Property.{Property}
-use Rattle.ply_reader.specs.declared.layout.Property.TheVariants.{Coordinate, Corners, Single, Many}
-use Rattle.ply_reader.specs.declared.layout.Element.{Element}
+use Rattle.ply_header.specs.declared.layout.ByteOrder.{ByteOrder}
+use Rattle.ply_header.specs.declared.layout.ScalarType.{ScalarType}
+use Rattle.ply_header.specs.declared.layout.Property.{Property}
+use Rattle.ply_header.specs.declared.layout.Property.TheVariants.{Coordinate, Corners, Single, Many}
+use Rattle.ply_header.specs.declared.layout.Element.{Element}
 use Rattle.ply_reader.specs.declared.values.Values.{Values}
 use Rattle.ply_reader.specs.declared.values.Record.{Record}
-use Rattle.ply_reader.specs.Layout.{size_of}
+use Rattle.ply_header.specs.Layout.{size_of}
 use Rattle.ply_reader.specs.Body.{Rest, forward, passed, no_values, property_in, properties_in, foreign_record, record_passed, records_passed, elements_passed}
 use Rattle.ply_reader.specs.Feed.{Feed, rest_with, rest_left, found, Fails, IsOpen, fixed_from}
 use Rattle.ply_reader.proofs.FeedLaws.{passed-more, passed-split, passed-none, chosen, passed-chosen}

@@ -9,7 +9,7 @@ use Rattle.mesh_data.specs.declared.items.MeshFault.TheVariants.{Read, Text, Too
 use Rattle.mesh_data.specs.Reading.{Gives, behind, nothing_more}
 use Rattle.oemm_lines.specs.Stream.{left_of}
 use Rattle.mesh_reading.specs.Progress.{MayFollow, given_by}
-use Rattle.ply_reader.specs.declared.layout.Layout.{Layout}
+use Rattle.ply_header.specs.declared.layout.Layout.{Layout}
 use Rattle.ply_reader.specs.Body.{Rest, item_in}
 use Rattle.ply_reader.specs.Feed.{Feed, rest_with, rest_left, found, failed, Fails}
 use Rattle.ply_reader.specs.Mesh.{items_of, begun_by}

@@ -1,4 +1,3 @@
-pub mod ResultLaws
 pub mod FeedLaws
 pub mod StepLaws
 pub mod RecordLaws

@@ -11,10 +11,10 @@ use Rattle.mesh_data.specs.Reading.{Reading, fault_alone}
 use Rattle.oemm_lines.specs.declared.parts.Line.{Line}
 use Rattle.oemm_lines.specs.Stream.{Stream, Flow, behind, left_of, left_with, flow_of, texts_of, GivesLine, IsLineEnd, IsDrained}
 use Rattle.mesh_reading.specs.Faults.{end_fault}
-use Rattle.ply_reader.specs.declared.layout.Layout.{Layout}
-use Rattle.ply_reader.specs.declared.layout.Header.{Header}
-use Rattle.ply_reader.specs.Results.{Answers}
-use Rattle.ply_reader.specs.Header.{nothing_declared, header_after, ends, layout_of}
+use Rattle.ply_header.specs.declared.layout.Layout.{Layout}
+use Rattle.ply_header.specs.declared.layout.Header.{Header}
+use Rattle.ply_header.specs.Results.{Answers}
+use Rattle.ply_header.specs.Header.{nothing_declared, header_after, ends, layout_of}
 use Rattle.ply_reader.specs.Body.{Rest, forward}
 use Rattle.ply_reader.specs.Mesh.{counted, declared, end_size, behind_line, from_first, from_header, is_first, laid}
 use Rattle.ply_reader.specs.Feed.{Feed, rest_with, rest_left}

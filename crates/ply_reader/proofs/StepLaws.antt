@@ -12,12 +12,12 @@ use Rattle.oemm_lines.specs.Stream.{left_of}
 use Rattle.mesh_reading.specs.Results.{◌>>=◌, IsOfText}
 use Rattle.mesh_reading.specs.Faults.{most_mesh_bytes}
 use Rattle.mesh_reading.specs.Faces.{name_of, triangle_of}
-use Rattle.ply_reader.specs.declared.layout.ByteOrder.{ByteOrder}
-use Rattle.ply_reader.specs.declared.layout.ByteOrder.TheVariants.{Little, Big}
-use Rattle.ply_reader.specs.declared.layout.ScalarType.{ScalarType}
-use Rattle.ply_reader.specs.declared.layout.ScalarType.TheVariants.{I8, U8, I16, U16, I32, U32, F32, F64}
+use Rattle.ply_header.specs.declared.layout.ByteOrder.{ByteOrder}
+use Rattle.ply_header.specs.declared.layout.ByteOrder.TheVariants.{Little, Big}
+use Rattle.ply_header.specs.declared.layout.ScalarType.{ScalarType}
+use Rattle.ply_header.specs.declared.layout.ScalarType.TheVariants.{I8, U8, I16, U16, I32, U32, F32, F64}
 use Rattle.ply_reader.specs.declared.values.Record.{Record}
-use Rattle.ply_reader.specs.Layout.{size_of}
+use Rattle.ply_header.specs.Layout.{size_of}
 use Rattle.ply_reader.specs.Body.{Rest, forward, passed, bits_of, number_of, index_at, triangle_at}
 use Rattle.ply_reader.specs.Feed.{Feed, rest_with, rest_left, failed, found, Fails, Finds, Passes}
 use Rattle.ply_reader.proofs.FeedLaws.{passed-more, passed-on}

@@ -15,19 +15,19 @@ use Rattle.mesh_data.specs.declared.items.MeshFault.TheVariants.{Text, TooMany}
 use Rattle.mesh_reading.specs.Results.{◌>>=◌}
 use Rattle.mesh_reading.specs.Faults.{most_mesh_bytes}
 use Rattle.mesh_reading.specs.Faces.{name_of, triangle_of}
-use Rattle.ply_reader.specs.declared.layout.ByteOrder.{ByteOrder}
-use Rattle.ply_reader.specs.declared.layout.ByteOrder.TheVariants.{Little, Big}
-use Rattle.ply_reader.specs.declared.layout.ScalarType.{ScalarType}
-use Rattle.ply_reader.specs.declared.layout.ScalarType.TheVariants.{I8, U8, I16, U16, I32, U32, F32, F64}
-use Rattle.ply_reader.specs.declared.layout.Axis.{Axis}
-use Rattle.ply_reader.specs.declared.layout.Axis.TheVariants.{X, Y, Z}
-use Rattle.ply_reader.specs.declared.layout.Property.{Property}
-use Rattle.ply_reader.specs.declared.layout.Property.TheVariants.{Coordinate, Corners, Single, Many}
-use Rattle.ply_reader.specs.declared.layout.Element.{Element}
-use Rattle.ply_reader.specs.declared.layout.Layout.{Layout}
+use Rattle.ply_header.specs.declared.layout.ByteOrder.{ByteOrder}
+use Rattle.ply_header.specs.declared.layout.ByteOrder.TheVariants.{Little, Big}
+use Rattle.ply_header.specs.declared.layout.ScalarType.{ScalarType}
+use Rattle.ply_header.specs.declared.layout.ScalarType.TheVariants.{I8, U8, I16, U16, I32, U32, F32, F64}
+use Rattle.ply_header.specs.declared.layout.Axis.{Axis}
+use Rattle.ply_header.specs.declared.layout.Axis.TheVariants.{X, Y, Z}
+use Rattle.ply_header.specs.declared.layout.Property.{Property}
+use Rattle.ply_header.specs.declared.layout.Property.TheVariants.{Coordinate, Corners, Single, Many}
+use Rattle.ply_header.specs.declared.layout.Element.{Element}
+use Rattle.ply_header.specs.declared.layout.Layout.{Layout}
 use Rattle.ply_reader.specs.declared.values.Values.{Values}
 use Rattle.ply_reader.specs.declared.values.Record.{Record}
-use Rattle.ply_reader.specs.Layout.{size_of}
+use Rattle.ply_header.specs.Layout.{size_of}
 
 -- what is left of a file: the number of bytes before, and the bytes
 pub record Rest : Type 0 where

@@ -7,9 +7,9 @@ use Rattle.mesh_data.specs.declared.items.MeshFault.{MeshFault}
 use Rattle.mesh_data.specs.declared.items.MeshFault.TheVariants.{Read, Text, TooMany, Memory}
 use Rattle.mesh_data.specs.declared.geometry.Tri.{Tri}
 use Rattle.mesh_data.specs.Triangles.{IsProper, IsBelow}
-use Rattle.ply_reader.specs.declared.layout.Property.{Property}
-use Rattle.ply_reader.specs.declared.layout.Property.TheVariants.{Single}
-use Rattle.ply_reader.specs.Layout.{size_of}
+use Rattle.ply_header.specs.declared.layout.Property.{Property}
+use Rattle.ply_header.specs.declared.layout.Property.TheVariants.{Single}
+use Rattle.ply_header.specs.Layout.{size_of}
 use Rattle.mesh_reading.specs.Faults.{most_mesh_bytes}
 use Rattle.ply_reader.specs.Body.{Rest, passed}
 

@@ -1,7 +1,3 @@
-pub mod Results
-pub mod Layout
-pub mod Header
-pub mod Limits
 pub mod Body
 pub mod Feed
 pub mod Mesh

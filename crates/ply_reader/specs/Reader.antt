@@ -10,9 +10,9 @@ use Rattle.oemm_lines.specs.declared.parts.Line.{Line}
 use Rattle.oemm_lines.specs.Stream.{Stream, left_of, flow_of}
 use Rattle.mesh_reading.specs.Faults.{end_fault}
 use Rattle.mesh_reading.specs.Progress.{MayFollow, given_by}
-use Rattle.ply_reader.specs.declared.layout.Layout.{Layout}
-use Rattle.ply_reader.specs.declared.layout.Header.{Header}
-use Rattle.ply_reader.specs.Limits.{IsLaidOut}
+use Rattle.ply_header.specs.declared.layout.Layout.{Layout}
+use Rattle.ply_header.specs.declared.layout.Header.{Header}
+use Rattle.ply_header.specs.Limits.{IsLaidOut}
 use Rattle.ply_reader.specs.Body.{Rest}
 use Rattle.ply_reader.specs.Feed.{Feed, IsOpen, rest_left}
 use Rattle.ply_reader.specs.Mesh.{from_first, from_header, items_of}

@@ -9,8 +9,7 @@ ghost use Rattle.ply_reader.specs.Feed as feeds;
 ghost use Rattle.ply_reader.specs.Feed.{rest_left, Finds, IsOpen, Passes};
 
 use super::feed::Feed;
-use super::layout::{ByteOrder, Element, Layout, Property};
-use super::names::size_of;
+use ply_header::{ByteOrder, Element, Layout, Property, size_of};
 use super::record::properties_in;
 use super::values::Record;
 use mesh_data::{Item, MeshFault, MeshWhy};

@@ -4,13 +4,13 @@ ghost use Rattle.std.specs.Prelude.{◌≡◌, ◌+◌, ◌≤◌, ◌<◌, None
 ghost use Rattle.std.specs.Option.{option_map};
 ghost use Rattle.fault_counts.specs.Counts.{Rose};
 ghost use Rattle.oemm_lines.specs.Stream.{left_of};
-ghost use Rattle.ply_reader.specs.Limits.{IsLaidOut};
+ghost use Rattle.ply_header.specs.Limits.{IsLaidOut};
 ghost use Rattle.ply_reader.specs.Feed.{rest_left, IsOpen};
 ghost use Rattle.ply_reader.specs.Reader.{items_left, Ends, GivesNext};
 
 use super::body::item_in;
 use super::feed::Feed;
-use super::layout::Layout;
+use ply_header::Layout;
 use mesh_data::{Item, MeshFault};
 use oemm_io::Source;
 

@@ -5,14 +5,9 @@ ghost use Rattle.std.specs.Prelude.{◌≡◌};
 ghost use Rattle.ply_reader.specs.Mesh.{begins_as_ply};
 
 mod body;
-mod elements;
 mod feed;
-mod header;
 mod items;
-mod layout;
-mod names;
 mod numbers;
-mod properties;
 mod reader;
 mod record;
 mod start;

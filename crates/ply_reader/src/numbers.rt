@@ -2,10 +2,10 @@
 
 ghost use Rattle.std.specs.Prelude.{◌≡◌, ◌≤◌, length};
 ghost use Rattle.byteorder.specs.Endian.{twos_complement};
-ghost use Rattle.ply_reader.specs.Layout as layout;
+ghost use Rattle.ply_header.specs.Layout as layout;
 ghost use Rattle.ply_reader.specs.Body as grammar;
 
-use super::layout::{ByteOrder, ScalarType};
+use ply_header::{ByteOrder, ScalarType};
 use byteorder::{BigEndian, ByteOrder as Endian, LittleEndian};
 
 /// The number of the first bytes, read as two's complement.

@@ -2,7 +2,7 @@
 
 use super::feed::Feed;
 use super::items::item_after;
-use super::layout::Layout;
+use ply_header::Layout;
 use super::start::read_header;
 use mesh_data::{Item, Items, MeshFault};
 use oemm_io::Source;

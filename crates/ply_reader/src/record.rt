@@ -4,13 +4,12 @@ ghost use Rattle.std.specs.Prelude.{◌≡◌, ◌≤◌, ◌<◌, ◌+◌, ◌*
 ghost use Rattle.fault_counts.specs.Counts.{Rose};
 ghost use Rattle.mesh_data.specs.Triangles.{IsProper, IsBelow};
 ghost use Rattle.mesh_reading.specs.Results.{IsOfText};
-ghost use Rattle.ply_reader.specs.Layout as layout;
+ghost use Rattle.ply_header.specs.Layout as layout;
 ghost use Rattle.ply_reader.specs.Body as grammar;
 ghost use Rattle.ply_reader.specs.Feed.{rest_left, Finds, IsFaceBelow, IsOpen, Passes};
 
 use super::feed::Feed;
-use super::layout::{Axis, ByteOrder, Property, ScalarType};
-use super::names::size_of;
+use ply_header::{Axis, ByteOrder, Property, ScalarType, size_of};
 use super::numbers::number_of;
 use super::values::{Record, Values};
 use mesh_data::{MeshFault, MeshWhy, Point, Tri};

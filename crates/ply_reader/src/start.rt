@@ -4,15 +4,14 @@ ghost use Rattle.std.specs.Prelude.{◌≡◌, ◌≤◌, IfErr, IfOk, OnOk, IsE
 ghost use Rattle.std.specs.Option.{option_map};
 ghost use Rattle.fault_counts.specs.Counts.{Rose};
 ghost use Rattle.oemm_lines.specs.Stream.{left_of};
-ghost use Rattle.ply_reader.specs.Header as grammar;
-ghost use Rattle.ply_reader.specs.Limits.{IsLaidOut, IsLimited};
+ghost use Rattle.ply_header.specs.Header as grammar;
+ghost use Rattle.ply_header.specs.Limits.{IsLaidOut, IsLimited};
 ghost use Rattle.ply_reader.specs.Mesh as mesh;
 ghost use Rattle.ply_reader.specs.Feed.{rest_left, IsOpen};
 ghost use Rattle.ply_reader.specs.Reader.{first_of, header_of, Ends, HasLines};
 
 use super::feed::Feed;
-use super::header::{ends, header_after, layout_of, nothing_declared};
-use super::layout::{Header, Layout};
+use ply_header::{Header, Layout, ends, header_after, layout_of, nothing_declared};
 use mesh_data::{MeshFault, MeshWhy};
 use mesh_reading::fault_at;
 use oemm_io::Source;

@@ -1,6 +1,6 @@
 //! What is read of a record.
 
-use super::layout::ByteOrder;
+use ply_header::ByteOrder;
 use mesh_data::{Point, Tri};
 
 /// Which record is read.

@@ -1,6 +1,6 @@
 use Rattle.std.proofs.Common.{◌∙◌, ap, ◌*◌}
 use Rattle.std.specs.Option.{option_map}
-use Rattle.ply_reader.specs.Layout.{size_of}
+use Rattle.ply_header.specs.Layout.{size_of}
 use Rattle.ply_reader.specs.Body as grammar
 use Rattle.ply_reader.specs.Feed.{rest_left}
 use Rattle.ply_reader.proofs.StepLaws.{taken_then, triangle_at-front, pure, pure_finds, finds_same}

@@ -1,7 +1,7 @@
 use Rattle.std.proofs.Common.{◌∙◌, ap, sym, w64, rules}
 use Rattle.std.proofs.lemmas.Int.{to_z-of_z}
 use Rattle.std.specs.Option.{option_map}
-use Rattle.ply_reader.specs.Layout.{size_of}
+use Rattle.ply_header.specs.Layout.{size_of}
 use Rattle.ply_reader.specs.Body as grammar
 use Rattle.ply_reader.specs.Feed.{rest_left, found}
 use Rattle.ply_reader.proofs.StepLaws.{taken_then, number_of-front}

@@ -1,7 +1,7 @@
 use Rattle.std.proofs.Common.{◌≡◌, ◌≤◌, ◌-◌}
 use Rattle.std.specs.Option.{option_map}
 use Rattle.oemm_lines.specs.Stream.{left_of}
-use Rattle.ply_reader.specs.Limits.{IsLimited}
+use Rattle.ply_header.specs.Limits.{IsLimited}
 use Rattle.ply_reader.specs.Reader.{header_of, HasLines}
 use Rattle.ply_reader.proofs.start.rest_of_header.Given as goal
 

@@ -2,7 +2,7 @@ use Rattle.std.proofs.Common.{◌≡◌, Result, Err}
 use Rattle.mesh_data.specs.declared.items.MeshFault.{MeshFault}
 use Rattle.mesh_data.specs.declared.items.MeshFault.TheVariants.{Read, Text, TooMany, Memory}
 use Rattle.mesh_reading.specs.Results.{IsOfText}
-use Rattle.ply_reader.specs.Results.{Answers}
+use Rattle.ply_header.specs.Results.{Answers}
 
 -- a fault of the text that is defined is answered
 pub answers_exact : {A : Type 0} (defined : Result A MeshFault) (fault : MeshFault) → IsOfText fault → defined ≡ Err fault → Answers defined (Err fault)

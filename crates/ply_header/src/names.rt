@@ -1,8 +1,8 @@
 //! The words of a header that name something.
 
 ghost use Rattle.std.specs.Prelude.{◌≡◌};
-ghost use Rattle.ply_reader.specs.Layout as layout;
-ghost use Rattle.ply_reader.specs.Header as grammar;
+ghost use Rattle.ply_header.specs.Layout as layout;
+ghost use Rattle.ply_header.specs.Header as grammar;
 
 use super::layout::{Axis, Role, ScalarType};
 

@@ -2,10 +2,10 @@
 use Rattle.std.specs.Prelude.{ℕ, ◌≤◌, IfSome, ⊤}
 use Rattle.mesh_data.specs.Reading.{most_items}
 use Rattle.mesh_reading.specs.Progress.{AreLimited}
-use Rattle.ply_reader.specs.declared.layout.Role.{Role}
-use Rattle.ply_reader.specs.declared.layout.Role.TheVariants.{Vertices, Faces, Foreign}
-use Rattle.ply_reader.specs.declared.layout.Layout.{Layout}
-use Rattle.ply_reader.specs.declared.layout.Header.{Header}
+use Rattle.ply_header.specs.declared.layout.Role.{Role}
+use Rattle.ply_header.specs.declared.layout.Role.TheVariants.{Vertices, Faces, Foreign}
+use Rattle.ply_header.specs.declared.layout.Layout.{Layout}
+use Rattle.ply_header.specs.declared.layout.Header.{Header}
 
 -- so many records of this role may be
 abbrev pub HasFew : Role → ℕ → Type 0

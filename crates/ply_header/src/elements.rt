@@ -2,9 +2,9 @@
 
 ghost use Rattle.std.specs.Prelude.{◌≡◌, ◌∷◌, ◌++◌, [], IfOk, IfErr};
 ghost use Rattle.mesh_reading.specs.Results.{IsOfText};
-ghost use Rattle.ply_reader.specs.Results.{Answers};
-ghost use Rattle.ply_reader.specs.Header as grammar;
-ghost use Rattle.ply_reader.specs.Limits.{HasFew, IsLimited, IsStored};
+ghost use Rattle.ply_header.specs.Results.{Answers};
+ghost use Rattle.ply_header.specs.Header as grammar;
+ghost use Rattle.ply_header.specs.Limits.{HasFew, IsLimited, IsStored};
 
 use super::layout::{Element, Header, Properties, Role};
 use super::names::role_named;

@@ -2,9 +2,9 @@
 
 ghost use Rattle.std.specs.Prelude.{◌≡◌, ◌∷◌, IfOk, IfErr};
 ghost use Rattle.mesh_reading.specs.Results.{IsOfText};
-ghost use Rattle.ply_reader.specs.Results.{Answers};
-ghost use Rattle.ply_reader.specs.Header as grammar;
-ghost use Rattle.ply_reader.specs.Limits.{IsLaidOut, IsLimited};
+ghost use Rattle.ply_header.specs.Results.{Answers};
+ghost use Rattle.ply_header.specs.Header as grammar;
+ghost use Rattle.ply_header.specs.Limits.{IsLaidOut, IsLimited};
 
 use super::elements::{closed, pushed, with_element};
 use super::layout::{Axis, ByteOrder, Element, Elements, Header, Layout, Property};
@@ -120,7 +120,10 @@ fn declared_by(
     Err(fault_at(at, MeshWhy::HeadLine))
 }
 
-/// The header behind a line that doesn't end it.
+/// The header behind a line with these words, which stands at this place and doesn't end it.
+///
+/// # Errors
+/// What is wrong with the line, at its place; `TooMany` where it declares more vertices or faces than 2^24; `Memory`.
 #[tactic(auto, using(crate::proofs::ResultLaws::answers_exact), unfolding(crate::specs::Header::header_after))]
 pub fn header_after(
     alloc: Global,
@@ -148,7 +151,7 @@ pub fn header_after(
     declared_by(alloc, header, at, word, words)
 }
 
-/// Whether the line ends the header.
+/// Whether the line with these words ends the header: its first word is `end_header`, behind the line of the format.
 pub fn ends(header: &Header, mut words: WordsLeft<'_>) -> bool
     ensures { result ≡ grammar.ends header.now words.entry }
 {
@@ -205,7 +208,11 @@ fn laid_out(at: u64, header: Header) -> Result<Layout, MeshFault>
     })
 }
 
-/// The layout at the line that ends the header.
+/// The layout at the line with these words, which stands at this place and ends the header.
+///
+/// # Errors
+/// `NoElement` and `NoProperty` where something is missing, `HeadLine` where a further word stands on the line, and
+/// `Memory`.
 #[tactic(auto, using(crate::proofs::ResultLaws::answers_exact))]
 pub fn layout_of(header: Header, at: u64, mut words: WordsLeft<'_>) -> Result<Layout, MeshFault>
     requires { IsLimited header }

@@ -68,6 +68,7 @@ pub enum Role {
 #[derive(Drop)]
 pub struct Element {
     pub role: Role,
+    /// How many records it has.
     pub count: u64,
     pub properties: Properties,
 }
@@ -92,9 +93,13 @@ pub struct Layout {
 pub struct Header {
     /// The order, once the line of the format was read.
     pub order: Option<ByteOrder>,
+    /// The foreign elements in front of the vertices.
     pub before: Elements,
+    /// The vertices, once an element behind them was declared.
     pub vertex: Option<Element>,
+    /// The foreign elements between the vertices and the faces.
     pub between: Elements,
+    /// The faces, once an element behind them was declared.
     pub face: Option<Element>,
     /// The element that was declared last, to which the properties to come belong.
     pub last: Option<Element>,

@@ -3,7 +3,7 @@
 ghost use Rattle.std.specs.Prelude.{◌≡◌, [], ◌∷◌, IfErr, IfOk};
 ghost use Rattle.std.specs.List.{list_any};
 ghost use Rattle.mesh_reading.specs.Results.{IsOfText};
-ghost use Rattle.ply_reader.specs.Header as grammar;
+ghost use Rattle.ply_header.specs.Header as grammar;
 
 use super::layout::{Axis, Element, Property, PropertyType, Role, ScalarType};
 use super::names::{axis_named, is_float, names_corners, scalar_named};

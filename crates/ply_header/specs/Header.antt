@@ -12,22 +12,22 @@ use Rattle.mesh_data.specs.declared.items.MeshFault.{MeshFault}
 use Rattle.mesh_data.specs.declared.items.MeshFault.TheVariants.{Text, TooMany}
 use Rattle.mesh_data.specs.Reading.{most_items}
 use Rattle.oemm_lines.specs.Numbers.{whole_of}
-use Rattle.ply_reader.specs.declared.layout.ByteOrder.{ByteOrder}
-use Rattle.ply_reader.specs.declared.layout.ByteOrder.TheVariants.{Little, Big}
-use Rattle.ply_reader.specs.declared.layout.ScalarType.{ScalarType}
-use Rattle.ply_reader.specs.declared.layout.Axis.{Axis}
-use Rattle.ply_reader.specs.declared.layout.Axis.TheVariants.{X, Y, Z}
-use Rattle.ply_reader.specs.declared.layout.PropertyType.{PropertyType}
-use Rattle.ply_reader.specs.declared.layout.PropertyType.TheVariants as value
-use Rattle.ply_reader.specs.declared.layout.Property.{Property}
-use Rattle.ply_reader.specs.declared.layout.Property.TheVariants.{Coordinate, Corners, Single, Many}
-use Rattle.ply_reader.specs.declared.layout.Role.{Role}
-use Rattle.ply_reader.specs.declared.layout.Role.TheVariants.{Vertices, Faces, Foreign}
-use Rattle.ply_reader.specs.declared.layout.Element.{Element}
-use Rattle.ply_reader.specs.declared.layout.Layout.{Layout}
-use Rattle.ply_reader.specs.declared.layout.Header.{Header}
+use Rattle.ply_header.specs.declared.layout.ByteOrder.{ByteOrder}
+use Rattle.ply_header.specs.declared.layout.ByteOrder.TheVariants.{Little, Big}
+use Rattle.ply_header.specs.declared.layout.ScalarType.{ScalarType}
+use Rattle.ply_header.specs.declared.layout.Axis.{Axis}
+use Rattle.ply_header.specs.declared.layout.Axis.TheVariants.{X, Y, Z}
+use Rattle.ply_header.specs.declared.layout.PropertyType.{PropertyType}
+use Rattle.ply_header.specs.declared.layout.PropertyType.TheVariants as value
+use Rattle.ply_header.specs.declared.layout.Property.{Property}
+use Rattle.ply_header.specs.declared.layout.Property.TheVariants.{Coordinate, Corners, Single, Many}
+use Rattle.ply_header.specs.declared.layout.Role.{Role}
+use Rattle.ply_header.specs.declared.layout.Role.TheVariants.{Vertices, Faces, Foreign}
+use Rattle.ply_header.specs.declared.layout.Element.{Element}
+use Rattle.ply_header.specs.declared.layout.Layout.{Layout}
+use Rattle.ply_header.specs.declared.layout.Header.{Header}
 use Rattle.mesh_reading.specs.Results.{◌>>=◌, only_if}
-use Rattle.ply_reader.specs.Layout.{is_float, is_either, scalar_named, axis_named, names_corners, same_axis}
+use Rattle.ply_header.specs.Layout.{is_float, is_either, scalar_named, axis_named, names_corners, same_axis}
 
 -- nothing was declared yet
 abbrev pub nothing_declared : Header

@@ -1,0 +1,4 @@
+pub mod Results
+pub mod Layout
+pub mod Header
+pub mod Limits
