@@ -9,12 +9,12 @@ ghost use Rattle.ply_reader.specs.Feed as feeds;
 ghost use Rattle.ply_reader.specs.Feed.{rest_left, Finds, IsOpen, Passes};
 
 use super::feed::Feed;
-use ply_header::{ByteOrder, Element, Layout, Property, size_of};
 use super::record::properties_in;
 use super::values::Record;
 use mesh_data::{Item, MeshFault, MeshWhy};
 use mesh_reading::fault_at;
 use oemm_io::Source;
+use ply_header::{ByteOrder, Element, Layout, Property, size_of};
 
 /// How many bytes the properties have, where each of them is a number.
 fn fixed_size(properties: &[Property]) -> Option<u64>

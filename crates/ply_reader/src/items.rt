@@ -10,9 +10,9 @@ ghost use Rattle.ply_reader.specs.Reader.{items_left, Ends, GivesNext};
 
 use super::body::item_in;
 use super::feed::Feed;
-use ply_header::Layout;
 use mesh_data::{Item, MeshFault};
 use oemm_io::Source;
+use ply_header::Layout;
 
 /// The vertex or face behind so many of them, or None behind the last one.
 pub fn item_after<S: Source>(

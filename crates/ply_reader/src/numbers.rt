@@ -5,8 +5,8 @@ ghost use Rattle.byteorder.specs.Endian.{twos_complement};
 ghost use Rattle.ply_header.specs.Layout as layout;
 ghost use Rattle.ply_reader.specs.Body as grammar;
 
-use ply_header::{ByteOrder, ScalarType};
 use byteorder::{BigEndian, ByteOrder as Endian, LittleEndian};
+use ply_header::{ByteOrder, ScalarType};
 
 /// The number of the first bytes, read as two's complement.
 fn signed_of(order: ByteOrder, size: usize, bytes: &[u8]) -> i64

@@ -2,11 +2,11 @@
 
 use super::feed::Feed;
 use super::items::item_after;
-use ply_header::Layout;
 use super::start::read_header;
 use mesh_data::{Item, Items, MeshFault};
 use oemm_io::Source;
 use oemm_lines::Lines;
+use ply_header::Layout;
 use std::marker::Model;
 
 /// A reader of a binary PLY mesh of either byte order, over the lines of its source.

@@ -9,12 +9,12 @@ ghost use Rattle.ply_reader.specs.Body as grammar;
 ghost use Rattle.ply_reader.specs.Feed.{rest_left, Finds, IsFaceBelow, IsOpen, Passes};
 
 use super::feed::Feed;
-use ply_header::{Axis, ByteOrder, Property, ScalarType, size_of};
 use super::numbers::number_of;
 use super::values::{Record, Values};
 use mesh_data::{MeshFault, MeshWhy, Point, Tri};
 use mesh_reading::{fault_at, name_of, triangle_of};
 use oemm_io::Source;
+use ply_header::{Axis, ByteOrder, Property, ScalarType, size_of};
 
 /// Nothing of a record was read yet.
 pub fn no_values() -> Values

@@ -11,11 +11,11 @@ ghost use Rattle.ply_reader.specs.Feed.{rest_left, IsOpen};
 ghost use Rattle.ply_reader.specs.Reader.{first_of, header_of, Ends, HasLines};
 
 use super::feed::Feed;
-use ply_header::{Header, Layout, ends, header_after, layout_of, nothing_declared};
 use mesh_data::{MeshFault, MeshWhy};
 use mesh_reading::fault_at;
 use oemm_io::Source;
 use oemm_lines::WordsLeft;
+use ply_header::{Header, Layout, ends, header_after, layout_of, nothing_declared};
 use std::alloc::Global;
 
 /// Whether a line has the one word `ply`.

@@ -1,7 +1,7 @@
 //! What is read of a record.
 
-use ply_header::ByteOrder;
 use mesh_data::{Point, Tri};
+use ply_header::ByteOrder;
 
 /// Which record is read.
 #[derive(Clone, Copy)]
