@@ -1,5 +1,6 @@
 -- What the lines of a header declare, and what is wrong with them.
 use Rattle.std.proofs.Common.{◌≡◌, ◌≢◌, ℕ, ◌&&◌, true, false, Bool, List, [], ◌∷◌, ◌++◌, Option, Some, None, Ok, Err, codes, if◌then◌else◌, refl, ap, sym, ◌∙◌}
+use Rattle.std.proofs.lemmas.Bool.{and_parts, false_from_ne_true}
 use Rattle.std.specs.Option.{is_some}
 use Rattle.std.specs.Str.{bytes_eq}
 use Rattle.std.proofs.lemmas.Slice.Eq.{bytes_eq-Decides}
@@ -47,14 +48,10 @@ second_vertex h order at words known there = element_declares h order at (codes 
 pub second_face : (h : Header) (order : ByteOrder) (at : ℕ) (words : List (List ℕ)) → h.order ≡ Some order → HasFace h → header_after h at (element_line (codes "face" ∷ words)) ≡ Err (Text at Twice)
 second_face h order at words known there = element_declares h order at (codes "face" ∷ words) known ∙ face_again h at words (has_face h there)
 
--- what stands behind tests that hold
+-- what is there, where the test says that something is
 pub some_there : {A : Type 0} (o : Option A) → is_some o ≡ true → (x : A) × (o ≡ Some x)
 some_there None is = absurd cc
 some_there (Some x) is = (x, refl)
-
-pub both_true : (a b : Bool) → (a && b) ≡ true → a ≡ true
-both_true true b both = refl
-both_true false b both = both
 
 -- a layout without vertices, and one without faces
 no_vertex_laid : (h : Header) (order : ByteOrder) (at : ℕ) → h.order ≡ Some order → h.vertex ≡ None → laid_out at h ≡ Err (Text at (NoElement element.Vertex))
@@ -69,20 +66,15 @@ no_face_laid h order vertex at known there none = rw (known, there, none)
 pub no_vertex : (h : Header) (at : ℕ) (words : List (List ℕ)) → ends h words ≡ true → (HasVertex h → ⊥) → layout_of h at words ≡ Err (Text at (NoElement element.Vertex))
 no_vertex h at [] off never = absurd cc
 no_vertex h at (word ∷ words) off never =
-    let order = some_there h.order (both_true (is_some h.order) (bytes_eq word (codes "end_header")) off) in
+    let order = some_there h.order (and_parts (is_some h.order) (bytes_eq word (codes "end_header")) off).0 in
     rw (no_vertex_laid (closed h) order.0 at ((is_closed h).order ∙ order.1) (has_no_vertex h never))
 
 pub no_face : (h : Header) (at : ℕ) (words : List (List ℕ)) → ends h words ≡ true → HasVertex h → (HasFace h → ⊥) → layout_of h at words ≡ Err (Text at (NoElement element.Face))
 no_face h at [] off there never = absurd cc
 no_face h at (word ∷ words) off there never =
-    let order = some_there h.order (both_true (is_some h.order) (bytes_eq word (codes "end_header")) off) in
+    let order = some_there h.order (and_parts (is_some h.order) (bytes_eq word (codes "end_header")) off).0 in
     let vertex = some_there (closed h).vertex (has_vertex h there) in
     rw (no_face_laid (closed h) order.0 vertex.0 at ((is_closed h).order ∙ order.1) vertex.1 (has_no_face h never))
-
--- a test that can't hold
-pub false_unless : (b : Bool) → (b ≡ true → ⊥) → b ≡ false
-false_unless true never = absurd (never refl)
-false_unless false never = refl
 
 -- a property of the last element that is wrong
 last_fails : (h : Header) (at : ℕ) (e : Element) (words : List (List ℕ)) (fault : MeshFault) → h.last ≡ Some e → property_of at e words ≡ Err fault → with_property h at words ≡ Err fault
@@ -96,7 +88,7 @@ property_fails h order at e words fault known last wrong = property_declares h o
 type_is_no_list : (word : List ℕ) (number : ScalarType) → scalar_named word ≡ Some number → bytes_eq word (codes "list") ≡ false
 unfolding scalar_named
 type_is_no_list word number is =
-    false_unless (bytes_eq word (codes "list")) (λ same. let none : None ≡ Some number = ap scalar_named (sym ((bytes_eq-Decides word (codes "list")).0 same)) ∙ is in cc)
+    false_from_ne_true (bytes_eq word (codes "list")) (λ same. let none : None ≡ Some number = ap scalar_named (sym ((bytes_eq-Decides word (codes "list")).0 same)) ∙ is in cc)
 
 -- a property behind the words of its type
 pub typed : (at : ℕ) (e : Element) (kind : PropertyType) (words : List (List ℕ)) (name : List ℕ) (more : List (List ℕ)) (fault : MeshFault) → WriteType words kind → property_named at e.role e.properties kind name ≡ Err fault → property_of at e (words ++ name ∷ more) ≡ Err fault
@@ -153,7 +145,7 @@ big_format h at unknown = named_format h at (codes "binary_big_endian") unknown
 
 -- a name that is none of them
 pub differ : (a b : List ℕ) → a ≢ b → bytes_eq a b ≡ false
-differ a b other = false_unless (bytes_eq a b) (λ same. other ((bytes_eq-Decides a b).0 same))
+differ a b other = false_from_ne_true (bytes_eq a b) (λ same. other ((bytes_eq-Decides a b).0 same))
 
 other_order : (at : ℕ) (name : List ℕ) → name ≢ codes "binary_little_endian" → name ≢ codes "binary_big_endian" → name ≢ codes "ascii" → order_of at name ≡ Err (Text at HeadLine)
 unfolding order_of

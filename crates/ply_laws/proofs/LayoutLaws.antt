@@ -1,5 +1,6 @@
 -- What the line that ends a header says.
 use Rattle.std.proofs.Common.{◌≡◌, ℕ, true, false, List, [], ◌∷◌, Some, None, Result, Ok, Err, codes, ap, ◌∙◌}
+use Rattle.std.proofs.lemmas.Bool.{and_parts, false_from_ne_true}
 use Rattle.std.specs.Option.{is_some}
 use Rattle.std.specs.List.{list_any}
 use Rattle.std.specs.Str.{bytes_eq}
@@ -17,7 +18,7 @@ use Rattle.ply_header.specs.declared.layout.Header.{Header}
 use Rattle.ply_header.specs.Header.{at_line_end, closed, ends, is_along, is_corners, laid_out, layout_of, layout_with, missing, unless}
 use Rattle.ply_laws.specs.Elements.{Declares, HasCoordinate, HasCorners, HasPlace}
 use Rattle.ply_laws.proofs.ClosedLaws.{is_closed}
-use Rattle.ply_laws.proofs.HeaderLaws.{some_there, both_true, false_unless}
+use Rattle.ply_laws.proofs.HeaderLaws.{some_there}
 
 -- the layout of declared vertices and faces, by what they lack
 laid_by : (h : Header) (order : ByteOrder) (at : ℕ) (vertex face : Element) (lack : Result Layout MeshFault) → h.order ≡ Some order → h.vertex ≡ Some vertex → h.face ≡ Some face →
@@ -36,7 +37,7 @@ ended_by h order at word words vertex face lack known there is =
 lacking : (h : Header) (at : ℕ) (words : List (List ℕ)) (vertex face : Element) (why : MeshWhy) → ends h words ≡ true → Declares h vertex face → missing vertex.properties face.properties ≡ Some why → layout_of h at words ≡ Err (Text at why)
 lacking h at [] vertex face why off there is = absurd cc
 lacking h at (word ∷ words) vertex face why off there is =
-    let order = some_there h.order (both_true (is_some h.order) (bytes_eq word (codes "end_header")) off) in
+    let order = some_there h.order (and_parts (is_some h.order) (bytes_eq word (codes "end_header")) off).0 in
     ended_by h order.0 at word words vertex face (Err (Text at why)) order.1 there (ap (λ o. unless at o (layout_with (closed h) order.0 vertex face)) is)
 
 -- what is missing of properties
@@ -63,19 +64,19 @@ missing_none vertex face (x, y, z) corners = rw (x, y, z, corners)
 -- a vertex without one of its coordinates, and a face without indices
 pub no_x : (h : Header) (at : ℕ) (words : List (List ℕ)) (vertex face : Element) → ends h words ≡ true → Declares h vertex face → (HasCoordinate X vertex → ⊥) → layout_of h at words ≡ Err (Text at (NoProperty 0))
 no_x h at words vertex face off there never =
-    lacking h at words vertex face (NoProperty 0) off there (missing_x vertex.properties face.properties (false_unless (list_any (is_along X) vertex.properties) never))
+    lacking h at words vertex face (NoProperty 0) off there (missing_x vertex.properties face.properties (false_from_ne_true (list_any (is_along X) vertex.properties) never))
 
 pub no_y : (h : Header) (at : ℕ) (words : List (List ℕ)) (vertex face : Element) → ends h words ≡ true → Declares h vertex face → HasCoordinate X vertex → (HasCoordinate Y vertex → ⊥) → layout_of h at words ≡ Err (Text at (NoProperty 1))
 no_y h at words vertex face off there x never =
-    lacking h at words vertex face (NoProperty 1) off there (missing_y vertex.properties face.properties x (false_unless (list_any (is_along Y) vertex.properties) never))
+    lacking h at words vertex face (NoProperty 1) off there (missing_y vertex.properties face.properties x (false_from_ne_true (list_any (is_along Y) vertex.properties) never))
 
 pub no_z : (h : Header) (at : ℕ) (words : List (List ℕ)) (vertex face : Element) → ends h words ≡ true → Declares h vertex face → HasCoordinate X vertex → HasCoordinate Y vertex → (HasCoordinate Z vertex → ⊥) → layout_of h at words ≡ Err (Text at (NoProperty 2))
 no_z h at words vertex face off there x y never =
-    lacking h at words vertex face (NoProperty 2) off there (missing_z vertex.properties face.properties x y (false_unless (list_any (is_along Z) vertex.properties) never))
+    lacking h at words vertex face (NoProperty 2) off there (missing_z vertex.properties face.properties x y (false_from_ne_true (list_any (is_along Z) vertex.properties) never))
 
 pub no_corners : (h : Header) (at : ℕ) (words : List (List ℕ)) (vertex face : Element) → ends h words ≡ true → Declares h vertex face → HasPlace vertex → (HasCorners face → ⊥) → layout_of h at words ≡ Err (Text at (NoProperty 3))
 no_corners h at words vertex face off there place never =
-    lacking h at words vertex face (NoProperty 3) off there (missing_corners vertex face place (false_unless (list_any is_corners face.properties) never))
+    lacking h at words vertex face (NoProperty 3) off there (missing_corners vertex face place (false_from_ne_true (list_any is_corners face.properties) never))
 
 -- the line that ends a header that has all
 nothing_lacks : (h : Header) (order : ByteOrder) (at : ℕ) (vertex face : Element) → HasPlace vertex → HasCorners face →
@@ -85,7 +86,7 @@ nothing_lacks h order at vertex face place corners = ap (λ o. unless at o (layo
 pub end_trailing : (h : Header) (at : ℕ) (end word : List ℕ) (words : List (List ℕ)) (vertex face : Element) → ends h (end ∷ word ∷ words) ≡ true → Declares h vertex face → HasPlace vertex → HasCorners face →
     layout_of h at (end ∷ word ∷ words) ≡ Err (Text at HeadLine)
 end_trailing h at end word words vertex face off there place corners =
-    let order = some_there h.order (both_true (is_some h.order) (bytes_eq end (codes "end_header")) off) in
+    let order = some_there h.order (and_parts (is_some h.order) (bytes_eq end (codes "end_header")) off).0 in
     ended_by h order.0 at end (word ∷ words) vertex face (Ok (layout_with (closed h) order.0 vertex face)) order.1 there (nothing_lacks h order.0 at vertex face place corners)
 
 pub whole_layout : (h : Header) (order : ByteOrder) (at : ℕ) (end : List ℕ) (vertex face : Element) → ends h (end ∷ []) ≡ true → h.order ≡ Some order → Declares h vertex face → HasPlace vertex → HasCorners face →

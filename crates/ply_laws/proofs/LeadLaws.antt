@@ -1,12 +1,11 @@
 -- What holds of each header to which lines lead.
-use Rattle.std.proofs.Common.{◌≡◌, ℕ, ◌⊎◌, inl, inr, true, false, Bool, List, [], ◌∷◌, Option, Some, None, Result, Ok, Err, if◌then◌else◌, codes, refl, ap, sym, subst, ◌∙◌}
+use Rattle.std.proofs.Common.{◌≡◌, ℕ, ◌⊎◌, inl, inr, true, false, Bool, List, [], ◌∷◌, Option, Some, None, Ok, Err, if◌then◌else◌, codes, refl, ap, sym, subst, ◌∙◌}
 use Rattle.std.specs.Option.{is_some, is_none, ok_or}
 use Rattle.std.specs.Str.{bytes_eq}
 use Rattle.mesh_data.specs.declared.items.MeshWhy.{MeshWhy}
 use Rattle.mesh_data.specs.declared.items.MeshWhy.TheVariants.{FaceFirst, Twice, HeadLine}
 use Rattle.mesh_data.specs.declared.items.MeshFault.{MeshFault}
 use Rattle.mesh_data.specs.declared.items.MeshFault.TheVariants.{Text}
-use Rattle.mesh_reading.specs.Results.{◌>>=◌}
 use Rattle.oemm_lines.specs.declared.parts.Line.{Line}
 use Rattle.oemm_lines.specs.Stream.{texts_of}
 use Rattle.ply_header.specs.declared.layout.ByteOrder.{ByteOrder}
@@ -18,18 +17,14 @@ use Rattle.ply_header.specs.Header.{closed, declared_by, format_of, header_after
 use Rattle.ply_laws.specs.Elements.{HasVertex, element_line}
 use Rattle.ply_laws.specs.Lines.{Lead}
 use Rattle.ply_laws.proofs.ClosedLaws.{is_vertices, is_faces, latest, is_closed, has_no_vertex, is_none_unless}
+use Rattle.ply_laws.proofs.Steps.{ok_is, bound}
 use Rattle.ply_laws.proofs.HeaderLaws.{element_declares}
 
 -- where the faces were declared, the vertices were
 abbrev FacesFollow : Header → Type 0
 FacesFollow h = is_some (latest is_faces h.last h.face) ≡ true → is_some (latest is_vertices h.last h.vertex) ≡ true
 
--- a step that went on, and what was found
-ok_step : {A B : Type 0} (o : Result A MeshFault) (f : A → Result B MeshFault) (y : B) → (o >>= f) ≡ Ok y → (x : A) × (o ≡ Ok x) × (f x ≡ Ok y)
-ok_step (Ok x) f y is = (x, refl, is)
-ok_step (Err e) f y is = absurd cc
-
--- a value that is there, one with which nothing is wrong, and one that was answered
+-- a value that is there, and one with which nothing is wrong
 ok_some : {A : Type 0} (o : Option A) (fault : MeshFault) (x : A) → ok_or o fault ≡ Ok x → o ≡ Some x
 ok_some None fault x is = absurd cc
 ok_some (Some y) fault x is = cc
@@ -37,9 +32,6 @@ ok_some (Some y) fault x is = cc
 ok_unless : {A : Type 0} (at : ℕ) (why : Option MeshWhy) (x y : A) → unless at why x ≡ Ok y → (why ≡ None) × (x ≡ y)
 ok_unless at None x y is = (refl, cc)
 ok_unless at (Some why) x y is = absurd cc
-
-ok_is : {A : Type 0} {x y : A} → ◌≡◌ {A = Result A MeshFault} (Ok x) (Ok y) → x ≡ y
-ok_is is = cc
 
 -- one of two
 chosen : {A : Type 0} (b : Bool) (x y z : A) → (if b then x else y) ≡ z → (x ≡ z) ⊎ (y ≡ z)
@@ -68,11 +60,11 @@ element_follows : (h next : Header) (at : ℕ) (words : List (List ℕ)) → Fac
 unfolding with_element
 element_follows h next at [] follow is = absurd cc
 element_follows h next at (name ∷ words) follow is =
-    let first = ok_step (unless at (role_fault (role_named name) (closed h)) (role_named name)) _ next is in
-    let right = ok_unless at (role_fault (role_named name) (closed h)) (role_named name) first.0 first.1 in
-    let second = ok_step (last_count_of at first.0 words) _ next first.2 in
-    subst FacesFollow (ok_is second.2)
-    (opened _ first.0 (closed h) (ap (λ r. role_fault r (closed h)) (sym right.1) ∙ right.0) (closed_follow h follow))
+    let first = bound (unless at (role_fault (role_named name) (closed h)) (role_named name)) _ next is in
+    let right = ok_unless at (role_fault (role_named name) (closed h)) (role_named name) first.value first.first in
+    let second = bound (last_count_of at first.value words) _ next first.next in
+    subst FacesFollow (ok_is _ _ second.next)
+    (opened _ first.value (closed h) (ap (λ r. role_fault r (closed h)) (sym right.1) ∙ right.0) (closed_follow h follow))
 
 -- another last element of the same role
 grown : (a b : Bool) (e d : Element) (f v : Option Element) → (is_some (if a then Some e else f) ≡ true → is_some (if b then Some e else v) ≡ true) →
@@ -85,11 +77,11 @@ grown false false e d f v follow there = follow there
 property_follows : (h next : Header) (at : ℕ) (words : List (List ℕ)) → FacesFollow h → with_property h at words ≡ Ok next → FacesFollow next
 unfolding with_property
 property_follows h next at words follow is =
-    let first = ok_step (ok_or h.last (Text at HeadLine)) _ next is in
-    let last = ok_some h.last (Text at HeadLine) first.0 first.1 in
-    let second = ok_step (property_of at first.0 words) _ next first.2 in
-    subst FacesFollow (ok_is second.2)
-    (grown (is_faces first.0.role) (is_vertices first.0.role) first.0 (longer first.0 second.0) h.face h.vertex
+    let first = bound (ok_or h.last (Text at HeadLine)) _ next is in
+    let last = ok_some h.last (Text at HeadLine) first.value first.first in
+    let second = bound (property_of at first.value words) _ next first.next in
+    subst FacesFollow (ok_is _ _ second.next)
+    (grown (is_faces first.value.role) (is_vertices first.value.role) first.value (longer first.value second.value) h.face h.vertex
     (subst (λ o. is_some (latest is_faces o h.face) ≡ true → is_some (latest is_vertices o h.vertex) ≡ true) last follow))
 
 -- a line behind that of the format, any line, and all lines
@@ -106,12 +98,12 @@ declared_follows h next at word words follow is =
 
 line_follows : (h next : Header) (at : ℕ) (words : List (List ℕ)) → FacesFollow h → header_after h at words ≡ Ok next → FacesFollow next
 unfolding header_after
-line_follows h next at [] follow is = subst FacesFollow (ok_is is) follow
+line_follows h next at [] follow is = subst FacesFollow (ok_is _ _ is) follow
 line_follows h next at (word ∷ words) follow is =
     elim (chosen (is_remark word) _ _ _ is) [
-      | inl remark ↦ subst FacesFollow (ok_is remark) follow
+      | inl remark ↦ subst FacesFollow (ok_is _ _ remark) follow
       | inr other ↦ elim (chosen (is_none h.order) _ _ _ other) [
-        | inl format ↦ (let order = ok_step (format_of at (word ∷ words)) _ next format in subst FacesFollow (ok_is order.2) follow)
+        | inl format ↦ (let order = bound (format_of at (word ∷ words)) _ next format in subst FacesFollow (ok_is _ _ order.next) follow)
         | inr known ↦ declared_follows h next at word words follow known
       ]
     ]

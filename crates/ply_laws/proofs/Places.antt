@@ -24,19 +24,7 @@ use Rattle.ply_reader.specs.Body.{Rest, forward, passed, number_of, number_in, m
 use Rattle.ply_laws.specs.Records.{width_of, HaveWidth, coordinate_along}
 use Rattle.ply_reader.proofs.BodyLaws.{passed_is}
 use Rattle.ply_reader.proofs.StepLaws.{some_is}
-
-ok_is : {A : Type 0} (x y : A) → Ok x ≡ (let r : Result A MeshFault = Ok y in r) → x ≡ y
-ok_is x y e = cc
-
--- what two steps give, one behind the other
-record Bound {A B : Type 0} (o : Result A MeshFault) (f : A → Result B MeshFault) (y : B) : Type 0 where
-  value : A
-  first : o ≡ Ok value
-  next : f value ≡ Ok y
-
-bound : {A B : Type 0} (o : Result A MeshFault) (f : A → Result B MeshFault) (y : B) → (o >>= f) ≡ Ok y → Bound o f y
-bound (Ok x) f y e = record { value = x; first = refl; next = e }
-bound (Err fault) f y e = absurd cc
+use Rattle.ply_laws.proofs.Steps.{ok_is, bound}
 
 -- the first, where it was chosen
 chosen_ok : {A : Type 0} (test : Bool) (x y : A) (fault : MeshFault) → (if test then Ok x else Err fault) ≡ Ok y → y ≡ x

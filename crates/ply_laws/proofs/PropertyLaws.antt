@@ -1,5 +1,6 @@
 -- What is wrong with a property of a header.
 use Rattle.std.proofs.Common.{◌≡◌, ℕ, true, List, ◌∷◌, ◌++◌, Some, None, Err, refl, ◌∙◌}
+use Rattle.std.proofs.lemmas.Bool.{false_from_ne_true}
 use Rattle.std.specs.List.{list_any}
 use Rattle.mesh_data.specs.declared.items.MeshWhy.TheVariants.{HeadLine, FloatCoordinate, Kind}
 use Rattle.mesh_data.specs.declared.items.MeshFault.{MeshFault}
@@ -15,7 +16,7 @@ use Rattle.ply_header.specs.declared.layout.Header.{Header}
 use Rattle.ply_header.specs.Layout.{is_float, axis_named, names_corners}
 use Rattle.ply_header.specs.Header.{coordinate_of, corners_of, header_after, is_along, is_corners, property_named, with_property}
 use Rattle.ply_laws.specs.Elements.{HasCoordinate, HasCorners, IsLast, WriteType, property_line}
-use Rattle.ply_laws.proofs.HeaderLaws.{property_declares, false_unless, property_fails, typed}
+use Rattle.ply_laws.proofs.HeaderLaws.{property_declares, property_fails, typed}
 
 -- a property where no element was declared
 no_element : (h : Header) (at : ℕ) (words : List (List ℕ)) → h.last ≡ None → with_property h at words ≡ Err (Text at HeadLine)
@@ -29,13 +30,13 @@ stray_property h order at words known none = property_declares h order at words 
 new_coordinate : (at : ℕ) (e : Element) (axis : Axis) (kind : PropertyType) (name : List ℕ) → e.role ≡ Vertices → (HasCoordinate axis e → ⊥) → axis_named name ≡ Some axis → property_named at e.role e.properties kind name ≡ coordinate_of at axis kind
 unfolding property_named
 new_coordinate at e axis kind name role new is =
-    let none = false_unless (list_any (is_along axis) e.properties) new in
+    let none = false_from_ne_true (list_any (is_along axis) e.properties) new in
     rw (role, is, none)
 
 new_corners : (at : ℕ) (e : Element) (kind : PropertyType) (name : List ℕ) → e.role ≡ Faces → (HasCorners e → ⊥) → names_corners name ≡ true → property_named at e.role e.properties kind name ≡ corners_of at kind
 unfolding property_named
 new_corners at e kind name role new is =
-    let none = false_unless (list_any is_corners e.properties) new in
+    let none = false_from_ne_true (list_any is_corners e.properties) new in
     rw (role, is, none)
 
 -- the line of a coordinate and that of indices whose type is wrong
