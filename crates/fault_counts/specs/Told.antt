@@ -11,6 +11,14 @@ Told = Option (List ℕ)
 abbrev pub Takes : Told → Told → List ℕ → Type 0
 Takes old new bytes = old ≡ option_map (λ rest. bytes ++ rest) new
 
+-- some bytes were taken, or none
+abbrev pub TakesSome : Told → Told → Type 0
+TakesSome old new = (bytes : List ℕ) × Takes old new bytes
+
+-- nothing was taken, and nothing has failed
+abbrev pub IsLeftAlone : Told → Told → ℕ → ℕ → Type 0
+IsLeftAlone left left' faults faults' = (left' ≡ left) × (faults' ≡ faults)
+
 -- there is nothing left
 abbrev pub IsAtEnd : Told → Type 0
 IsAtEnd left = IfSome left (λ rest. rest ≡ [])

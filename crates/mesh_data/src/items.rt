@@ -1,8 +1,9 @@
 //! The parts of a mesh's file, one after another, and what can be wrong with them or with a script.
 
-ghost use Rattle.std.specs.Prelude.{◌≡◌, ◌≤◌, ℕ, Option, Some, Err, ◌⊎◌};
-ghost use Rattle.fault_counts.specs.Counts.{Rose};
-ghost use Rattle.mesh_data.specs.Reading.{Reading, Given, Steps, Reads};
+ghost use Rattle.std.specs.Prelude.{◌≡◌, ℕ, Option, None, Ok, Err, IfSome};
+ghost use Rattle.fault_counts.specs.Counts.{TellsFailure};
+ghost use Rattle.fault_counts.specs.Told.{Told, TakesSome, IsLeftAlone};
+ghost use Rattle.mesh_data.specs.Reading.{Reading, Given, Steps, Reads, IsComplete};
 
 use crate::geometry::{Point, Tri};
 use std::alloc::{AllocError, AllocFailed};
@@ -145,13 +146,19 @@ pub trait Items {
     /// The items to come and the fault behind them, or none where they aren't told.
     ghost reading: { Self → Option Reading };
 
+    /// The bytes that what it reads from has left, or none where they aren't told.
+    ghost left: { Self → Told };
+
     /// How often what it reads from has failed.
     ghost faults: { Self → ℕ };
 
-    /// The next item, or None behind the last face. After a fault each later call answers that fault.
+    /// The next item, or None behind the last face. After a fault each later call answers that fault. Neither then nor
+    /// behind the last face anything is asked of what it reads from.
     fn next(&mut self) -> Result<Option<Item>, MeshFault>
         ensures given { Steps (given self.old) result (given self.new) }
         ensures told { Reads (reading self.old) result (reading self.new) }
-        ensures kept { faults self.old ≤ faults self.new }
-        ensures read { result ≡ Err MeshFault.Read → ((given self.old).fault ≡ Some MeshFault.Read) ⊎ Rose (faults self.old) (faults self.new) };
+        ensures left { TakesSome (left self.old) (left self.new) }
+        ensures cause { (given self.old).fault ≡ None → TellsFailure MeshFault.Read (faults self.old) (faults self.new) result }
+        ensures again { IfSome (given self.old).fault (λ fault. (result ≡ Err fault) × IsLeftAlone (left self.old) (left self.new) (faults self.old) (faults self.new)) }
+        ensures end { (given self.old).fault ≡ None → IsComplete (given self.old) → (result ≡ Ok None) × IsLeftAlone (left self.old) (left self.new) (faults self.old) (faults self.new) };
 }
