@@ -1,10 +1,6 @@
 -- A source that is taken whole, and a sink that a whole text is put into.
-use Rattle.std.specs.Prelude.{◌≡◌, ℕ, ◌<◌, Bool, false, List, length, IfSome}
-use Rattle.fault_counts.specs.Told.{Told, Takes}
-
--- some bytes were taken
-abbrev pub TakesSome : Told → Told → Type 0
-TakesSome old new = (bytes : List ℕ) × Takes old new bytes
+use Rattle.std.specs.Prelude.{◌≡◌, ℕ, ◌<◌, Bool, false, length, IfSome}
+use Rattle.fault_counts.specs.Told.{Told}
 
 -- there are more bytes than the limit, where they are told
 abbrev pub IsLongerThan : Told → ℕ → Type 0

@@ -1,7 +1,8 @@
 //! Sources and sinks of the system, which tell nothing of their bytes.
 
-ghost use Rattle.std.specs.Prelude.{◌≡◌, ◌≤◌, length, IfOk};
+ghost use Rattle.std.specs.Prelude.{◌≡◌, ◌≤◌, ◌<◌, ◌==◌, ◌&&◌, true, length, IfOk, OnOk, OnErr};
 ghost use Rattle.std.specs.String.{string_bytes};
+ghost use Rattle.fault_counts.specs.Counts.{HasCause};
 ghost use Rattle.oemm_io.specs.Files.{fresh};
 
 use crate::flows::{Failed, Sink, Source};
@@ -52,7 +53,11 @@ impl<R: Files> Source for FileSource<R> {
 
     ghost faults = { λ source. source.faults };
 
-    fn take(&mut self, buf: &mut [u8]) -> Result<usize, Failed> {
+    fn take(&mut self, buf: &mut [u8]) -> Result<usize, Failed>
+        ensures path { self.new.path ≡ self.old.path }
+        ensures within { IfOk result (λ n. n ≤ length buf.old) }
+        ensures cause { HasCause self.old.faults self.new.faults result }
+    {
         let read = read_some(&self.rt, &self.path, &mut self.file, buf);
         taken(read, &mut self.faults)
     }
@@ -119,12 +124,24 @@ impl<R: Files> Sink for FileSink<R> {
 
     ghost finished = { λ sink. sink.state.finished };
 
-    fn put(&mut self, bytes: &[u8]) -> Result<usize, Failed> {
+    fn put(&mut self, bytes: &[u8]) -> Result<usize, Failed>
+        ensures path { self.new.path ≡ self.old.path }
+        ensures within { IfOk result (λ n. n ≤ length bytes.now) }
+        ensures some { IfOk result (λ n. 0 < length bytes.now → 0 < n) }
+        ensures open { IfOk result (λ n. self.new.state.finished ≡ (self.old.state.finished && n == 0)) }
+        ensures err { OnErr result (self.new.state.finished ≡ self.old.state.finished) }
+        ensures cause { HasCause self.old.state.faults self.new.state.faults result }
+    {
         let written = write_some(&self.rt, &self.path, &mut self.file, bytes);
         self.tally.put(written, bytes.len())
     }
 
-    fn finish(&mut self) -> Result<(), Failed> {
+    fn finish(&mut self) -> Result<(), Failed>
+        ensures path { self.new.path ≡ self.old.path }
+        ensures finished { OnOk result (self.new.state.finished ≡ true) }
+        ensures err { OnErr result (self.new.state.finished ≡ self.old.state.finished) }
+        ensures cause { HasCause self.old.state.faults self.new.state.faults result }
+    {
         let flushed = flush(&self.rt, &self.path, &mut self.file);
         self.tally.finish(flushed)
     }

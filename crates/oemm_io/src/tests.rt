@@ -3,9 +3,13 @@
 ghost use Rattle.std.specs.Prelude.{◌≡◌, ◌≤◌, ◌∷◌, IfOk, IfSome};
 
 use super::*;
+use faulty::Faulty;
 use std::alloc::Global;
 use std::fs;
+use std::io::ErrorKind;
 use std::test::Fail;
+
+mod faulty;
 
 #[test]
 fn a_source_in_memory_fails_at_its_second_call(rt: HostRuntime) -> Result<(), Fail> {
@@ -86,33 +90,84 @@ fn a_sink_holds_a_front_after_a_fault(rt: HostRuntime) -> Result<(), Fail> {
 }
 
 #[test]
-fn a_file_is_written_and_read(rt: HostRuntime) -> Result<(), Fail> {
+fn a_file_goes_on_where_the_last_call_ended(rt: HostRuntime) -> Result<(), Fail> {
     let path = "oemm_io-round-trip";
-    let sink = FileSink::new(rt.clone()?, String::from_str(rt.alloc(), path)?);
-    let (_, done) = put_all(sink, b"solid");
+    let mut sink = FileSink::new(rt.clone()?, String::from_str(rt.alloc(), path)?);
+    assert_eq!(rt; sink.put(b"so"), Ok(2));
+    let (_, done) = put_all(sink, b"lid");
     assert_eq!(rt; done, Ok(()));
-    let source = FileSource::new(rt.clone()?, String::from_str(rt.alloc(), path)?);
+    let mut source = FileSource::new(rt.clone()?, String::from_str(rt.alloc(), path)?);
+    let mut buf = [0u8; 3];
+    assert_eq!(rt; source.take(&mut buf), Ok(3));
+    assert_eq!(rt; buf, *b"sol");
     let (_, taken) = take_all(rt.alloc(), source, 9);
-    assert_eq!(rt; taken?.as_slice(), b"solid".as_slice());
+    assert_eq!(rt; taken?.as_slice(), b"id".as_slice());
     fs::remove_file(&rt, path)?;
     Ok(())
 }
 
 #[test]
-fn no_file_and_a_folder_fail(rt: HostRuntime) -> Result<(), Fail> {
+fn no_file_a_folder_and_a_full_device_fail(rt: HostRuntime) -> Result<(), Fail> {
     let mut buf = [0u8; 8];
     for path in ["oemm_io-no-file", "."] {
         let mut source = FileSource::new(rt.clone()?, String::from_str(rt.alloc(), path)?);
         assert_eq!(rt; source.take(&mut buf), Err(Failed));
-        let mut sink = FileSink::new(rt.clone()?, String::from_str(rt.alloc(), ".")?);
-        assert_eq!(rt; sink.finish(), Err(Failed));
+    }
+    let mut folder = FileSink::new(rt.clone()?, String::from_str(rt.alloc(), ".")?);
+    assert_eq!(rt; folder.put(b"a"), Err(Failed));
+    assert_eq!(rt; folder.finish(), Err(Failed));
+    let mut full = FileSink::new(rt.clone()?, String::from_str(rt.alloc(), "/dev/full")?);
+    assert_eq!(rt; full.put(b"a"), Err(Failed));
+    Ok(())
+}
+
+#[test]
+fn a_file_that_fails_in_its_middle_is_read_on(rt: HostRuntime) -> Result<(), Fail> {
+    for kind in [ErrorKind::UnexpectedEof, ErrorKind::Interrupted] {
+        let system = Faulty { failing: 2, kind };
+        let mut source = FileSource::new(system, String::new(rt.alloc()));
+        let mut buf = [0u8; 3];
+        for (wanted, bytes) in [
+            (Ok(2), [1, 1, 0]),
+            (Err(Failed), [1, 1, 0]),
+            (Ok(2), [3, 3, 0]),
+        ] {
+            assert_eq!(rt; source.take(&mut buf), wanted);
+            assert_eq!(rt; buf, bytes);
+        }
     }
     Ok(())
 }
 
 #[test]
-fn standard_output_takes_no_byte(rt: HostRuntime) -> Result<(), Fail> {
+fn a_file_takes_a_part_and_tells_a_failed_write_and_flush(rt: HostRuntime) -> Result<(), Fail> {
+    for (failing, kind, first, flushed, second) in [
+        (1, ErrorKind::StorageFull, Err(Failed), Ok(()), Ok(2)),
+        (2, ErrorKind::StorageFull, Ok(2), Err(Failed), Ok(2)),
+        (3, ErrorKind::Interrupted, Ok(2), Ok(()), Err(Failed)),
+    ] {
+        let system = Faulty { failing, kind };
+        let mut sink = FileSink::new(system, String::new(rt.alloc()));
+        assert_eq!(rt; sink.put(b"abc"), first);
+        assert_eq!(rt; sink.finish(), flushed);
+        assert_eq!(rt; sink.put(b"abc"), second);
+        assert_eq!(rt; sink.finish(), Ok(()));
+    }
+    Ok(())
+}
+
+#[test]
+fn standard_output_takes_a_part_or_is_closed_or_full(rt: HostRuntime) -> Result<(), Fail> {
     let (_, done) = put_all(StdSink::new(rt.clone()?), b"");
     assert_eq!(rt; done, Ok(()));
+    for (failing, kind, put) in [
+        (0, ErrorKind::Other, Ok(2)),
+        (1, ErrorKind::BrokenPipe, Err(Failed)),
+        (1, ErrorKind::StorageFull, Err(Failed)),
+    ] {
+        let mut sink = StdSink::new(Faulty { failing, kind });
+        assert_eq!(rt; sink.put(b"abc"), put);
+        assert_eq!(rt; sink.finish(), Ok(()));
+    }
     Ok(())
 }

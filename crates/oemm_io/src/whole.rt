@@ -1,9 +1,9 @@
 //! All bytes of a source, and all bytes into a sink.
 
 ghost use Rattle.std.specs.Prelude.{◌≡◌, ◌≤◌, true, IfOk, OnOk, OnErr, IsErrOf, vec_len};
-ghost use Rattle.fault_counts.specs.Counts.{Rose, HasCause};
-ghost use Rattle.fault_counts.specs.Told.{Takes, IsAtEnd, Puts, PutsFront};
-ghost use Rattle.oemm_io.specs.Whole.{TakesSome, IsLongerThan, StaysOpen};
+ghost use Rattle.fault_counts.specs.Counts.{HasCause, TellsFailure};
+ghost use Rattle.fault_counts.specs.Told.{Takes, TakesSome, IsAtEnd, Puts, PutsFront};
+ghost use Rattle.oemm_io.specs.Whole.{IsLongerThan, StaysOpen};
 
 use crate::flows::{Failed, Sink, Source};
 use std::alloc::{AllocError, Global};
@@ -57,22 +57,20 @@ pub fn take_all<S: Source>(
     ensures within { IfOk result.1 (λ bytes. vec_len bytes ≤ limit) }
     ensures some { TakesSome (S.left source) (S.left result.0) }
     ensures too_many { IsErrOf result.1 TakeFault.TooMany → IsLongerThan (S.left source) limit }
-    ensures failed { IsErrOf result.1 TakeFault.Failed → Rose (S.faults source) (S.faults result.0) }
-    ensures kept { S.faults source ≤ S.faults result.0 }
+    ensures cause { TellsFailure TakeFault.Failed (S.faults source) (S.faults result.0) result.1 }
 {
     let taken = take_blocks(alloc, &mut source, limit);
     (source, taken)
 }
 
-#[tactic(auto, using(crate::proofs::Told::takes_none, crate::proofs::Told::takes_more, crate::proofs::Told::takes_longer))]
+#[tactic(auto, using(fault_counts::proofs::InRow::takes_none, fault_counts::proofs::InRow::takes_more, crate::proofs::Told::takes_longer))]
 fn take_blocks<S: Source>(alloc: Global, source: &mut S, limit: usize) -> Result<Vec<u8>, TakeFault>
     ensures all { IfOk result (λ bytes. Takes (S.left source.old) (S.left source.new) bytes.items) }
     ensures end { OnOk result (IsAtEnd (S.left source.new)) }
     ensures within { IfOk result (λ bytes. vec_len bytes ≤ limit) }
     ensures some { TakesSome (S.left source.old) (S.left source.new) }
     ensures too_many { IsErrOf result TakeFault.TooMany → IsLongerThan (S.left source.old) limit }
-    ensures failed { IsErrOf result TakeFault.Failed → Rose (S.faults source.old) (S.faults source.new) }
-    ensures kept { S.faults source.old ≤ S.faults source.new }
+    ensures cause { TellsFailure TakeFault.Failed (S.faults source.old) (S.faults source.new) result }
 {
     let mut bytes = Vec::new(alloc);
     let mut block = zeros(alloc, BLOCK)?;
@@ -110,7 +108,7 @@ pub fn put_all<O: Sink>(mut sink: O, bytes: &[u8]) -> (O, Result<(), Failed>)
     (sink, done)
 }
 
-#[tactic(auto, using(crate::proofs::Told::puts_none, crate::proofs::Told::puts_next))]
+#[tactic(auto, using(fault_counts::proofs::InRow::puts_none, crate::proofs::Told::puts_next))]
 fn put_pieces<O: Sink>(sink: &mut O, bytes: &[u8]) -> Result<(), Failed>
     ensures ok { OnOk result (Puts (O.held sink.old) (O.held sink.new) bytes.now) }
     ensures finished { OnOk result (O.finished sink.new ≡ true) }

@@ -1,4 +1,4 @@
-use Rattle.std.proofs.Common.{length, ◌-◌, ◌≤◌, take}
+use Rattle.std.proofs.Common.{◌≡◌, length, ◌-◌, ◌≤◌, take}
 use Rattle.fault_counts.specs.Told.{Puts}
 use Rattle.oemm_io.specs.Whole.{StaysOpen}
 use Rattle.oemm_io.proofs.whole.put_pieces.Given as goal
@@ -8,7 +8,7 @@ invariant-loop-at g l = record {
   in_range : l.at ≤ length l.bytes;
   held : Puts (g.O.Sink.held l.initial.sink) (g.O.Sink.held l.sink) (take l.at l.bytes);
   open_still : StaysOpen (g.O.Sink.finished l.initial.sink) (g.O.Sink.finished l.sink);
-  kept : g.O.Sink.faults l.initial.sink ≤ g.O.Sink.faults l.sink;
+  calm : g.O.Sink.faults l.sink ≡ g.O.Sink.faults l.initial.sink;
 }
 
 abbrev pub decreases-loop-at : goal.decreases-loop-at

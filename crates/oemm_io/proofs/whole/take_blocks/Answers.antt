@@ -1,5 +1,5 @@
 use Rattle.std.proofs.Common.{◌++◌, take}
-use Rattle.oemm_io.proofs.Told.{takes_more}
+use Rattle.fault_counts.proofs.InRow.{takes_more}
 use Rattle.oemm_io.proofs.whole.take_blocks.Goals as goal
 
 pub returns-then-count-limit-clause-some : goal.returns-then-count-limit-clause-some
