@@ -5,13 +5,13 @@ use Rattle.std.specs.Result.{result_err}
 use Rattle.std.specs.List.{AllByRecursion}
 use Rattle.std.proofs.lemmas.Bool.Decides.{eqb_tells}
 use Rattle.std.proofs.lemmas.List.{take-append-drop, length-take-le, get_or-take, drop_all}
-use Rattle.fault_counts.specs.Told.{Told, Takes, IsAtEnd}
-use Rattle.oemm_io.proofs.Told.{takes_more}
+use Rattle.fault_counts.specs.Told.{Told, Takes, TakesSome, IsAtEnd}
+use Rattle.fault_counts.proofs.InRow.{takes_more}
 use Rattle.oemm_lines.specs.declared.parts.Line.{Line}
 use Rattle.oemm_lines.specs.declared.parts.LineFault.{LineFault}
 use Rattle.oemm_lines.specs.declared.parts.LineFault.TheVariants.{Read, TooLong, Bytes, Memory}
 use Rattle.oemm_lines.specs.Lines.{without_return}
-use Rattle.oemm_lines.specs.Stream.{Flow, behind, fault_alone, nothing_more, told_lines, line_of, Stream, left_with, left_of, end_of, flow_by, flow_of, flow_left, IsLineEnd, GivesLine, StaysPut, GivesNext, GivesRaw, Loses, Says}
+use Rattle.oemm_lines.specs.Stream.{Flow, behind, fault_alone, nothing_more, told_lines, line_of, Stream, left_with, left_of, end_of, flow_by, flow_of, flow_left, IsLineEnd, GivesLine, StaysPut, GivesNext, GivesRaw, Says}
 use Rattle.oemm_lines.specs.Lines.{HasNoFeed}
 use Rattle.oemm_lines.proofs.LineLaws.{no_feed}
 use Rattle.oemm_lines.proofs.WordPlaces.{word_texts, words_within}
@@ -294,7 +294,7 @@ filled_more all old before now ahead bytes after n left taken same copied lent r
     ∙ ap (λ (t : List ℕ). option_map (λ (r : List ℕ). now ++ r) (left_with t left)) (sym rest)
 
 -- whatever a call answers behind bytes that were taken, they are lost
-pub lost_more : {T E : Type 0} (all old left : Told) (taken : List ℕ) (result : Result T E) → Takes all old taken → old ≡ left → OnErr result (Loses all left)
+pub lost_more : {T E : Type 0} (all old left : Told) (taken : List ℕ) (result : Result T E) → Takes all old taken → old ≡ left → OnErr result (TakesSome all left)
 lost_more all old left taken (Ok x) took same = tt
 lost_more all old left taken (Err fault) took same = (taken, took ∙ ap (option_map (λ rest. taken ++ rest)) same)
 

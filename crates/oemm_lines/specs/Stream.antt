@@ -2,7 +2,8 @@
 use Rattle.std.specs.Prelude.{◌≡◌, ℕ, ◌+◌, ◌<◌, ◌≤◌, nat_lt, Bool, true, false, ◌&&◌, ◌==◌, if◌then◌else◌, ◌⊎◌, List, [], ◌∷◌, ◌++◌, length, take, min, slice_range, map, All, Option, Some, None, IfSome, Result, Ok, Err, ⊤}
 use Rattle.std.specs.Option.{option_map}
 use Rattle.std.specs.List.{before_first}
-use Rattle.fault_counts.specs.Told.{Told, Takes, IsAtEnd}
+use Rattle.fault_counts.specs.Counts.{TellsFailure}
+use Rattle.fault_counts.specs.Told.{Told, Takes, TakesSome, IsAtEnd}
 use Rattle.oemm_lines.specs.Words.{is_blank, begins_with_word, words_of}
 use Rattle.oemm_lines.specs.Lines.{without_return, HasNoFeed}
 use Rattle.oemm_lines.specs.declared.parts.Word.{Word}
@@ -158,6 +159,13 @@ flow_of s bytes = flow_by s.fault (told_lines s.comments s.budget s.at s.number 
 abbrev pub flow_left : {S : Type 0} → (S → Told) → Stream S → Option Flow
 flow_left told s = option_map (flow_of s) (left_of told s)
 
+-- what a call did with the source of a stream: some bytes were taken from its front, and its failure was told as this
+-- fault and as nothing else
+pub record UsesSource {S T E : Type 0} (left : S → Told) (faults : S → ℕ) (failed : E) (old new : Stream S)
+    (result : Result T E) : Type 0 where
+  pub source : TakesSome (left old.source) (left new.source)
+  pub cause : TellsFailure failed (faults old.source) (faults new.source) result
+
 -- nothing that was read ahead is left, and the source is at its end
 abbrev pub IsDrained : {S : Type 0} → (S → Told) → Stream S → Type 0
 IsDrained told s = (s.ahead ≡ []) × IsAtEnd (told s.source)
@@ -224,9 +232,11 @@ pub record GivesRaw {S : Type 0} (told : S → Told) (old : Stream S) (buf : Lis
   pub same_count : new.number ≡ old.number
   pub within : new.at ≤ new.budget
 
--- some bytes were taken, and weren't given
-abbrev pub Loses : Told → Told → Type 0
-Loses old new = (bytes : List ℕ) × Takes old new bytes
+-- nothing was given: some bytes may be lost, and how far the stream has come is as it was
+pub record GivesNoRaw {S : Type 0} (told : S → Told) (old new : Stream S) : Type 0 where
+  pub lost : TakesSome (left_of told old) (left_of told new)
+  pub same_place : new.at ≡ old.at
+  pub same_count : new.number ≡ old.number
 
 -- of so many bytes one lies past the budget
 abbrev pub NeedsPast : {S : Type 0} → (S → Told) → Stream S → ℕ → Type 0
@@ -243,4 +253,4 @@ RawFault told old size Memory = ⊥
 abbrev pub RawGives : {S : Type 0} → (S → Told) → Stream S → List ℕ → Result ℕ LineFault → Stream S → Type 0
 RawGives told old buf (Ok n) new = GivesRaw told old buf n new
 RawGives told old buf (Err fault) new =
-    Loses (left_of told old) (left_of told new) × (old.fault ≡ None → RawFault told old (length buf) fault)
+    GivesNoRaw told old new × (old.fault ≡ None → RawFault told old (length buf) fault)

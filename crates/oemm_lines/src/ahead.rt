@@ -2,7 +2,7 @@
 
 ghost use Rattle.std.specs.Prelude.{◌≡◌, ◌+◌, ◌-◌, ◌<◌, ◌≤◌, [], length, take, drop, slice_range, IfOk, OnErr};
 ghost use Rattle.fault_counts.specs.Counts.{HasCause};
-ghost use Rattle.fault_counts.specs.Told.{Takes, IsAtEnd};
+ghost use Rattle.fault_counts.specs.Told.{Takes, TakesSome, IsAtEnd};
 ghost use Rattle.oemm_lines.specs.Stream.{left_with, most_ahead};
 
 use oemm_io::{Failed, Source};
@@ -73,6 +73,7 @@ impl Ahead {
         ensures end { IfOk result (λ n. n ≡ 0 → IsAtEnd (S.left source.new)) }
         ensures room { length self.new ≤ most_ahead }
         ensures err { OnErr result (self.new ≡ self.old) }
+        ensures source { TakesSome (S.left source.old) (S.left source.new) }
         ensures cause { HasCause (S.faults source.old) (S.faults source.new) result }
     {
         let buffer = self.buffer.as_mut_slice();
@@ -110,6 +111,7 @@ fn take_block<S: Source>(buffer: &mut [u8], at: usize, source: &mut S) -> Result
     ensures taken { IfOk result (λ n. Takes (S.left source.old) (S.left source.new) (slice_range buffer.new at (at + n))) }
     ensures end { IfOk result (λ n. n ≡ 0 → IsAtEnd (S.left source.old)) }
     ensures err { OnErr result (S.left source.new ≡ S.left source.old) }
+    ensures source { TakesSome (S.left source.old) (S.left source.new) }
     ensures cause { HasCause (S.faults source.old) (S.faults source.new) result }
 {
     source.take(&mut buffer[at..at + BLOCK])

@@ -2,6 +2,7 @@
 
 ghost use Rattle.std.specs.Prelude.{◌≡◌, ◌<◌, ◌≤◌, length, slice_index, IfOk, OnErr, MatchOption};
 ghost use Rattle.fault_counts.specs.Counts.{HasCause};
+ghost use Rattle.fault_counts.specs.Told.{TakesSome};
 ghost use Rattle.oemm_lines.specs.Stream.{left_with, most_ahead};
 ghost use Rattle.oemm_lines.specs.Lines.{HasNoFeed};
 ghost use Rattle.oemm_lines.specs.Ends.{IsFound};
@@ -46,6 +47,7 @@ pub fn find_end<S: Source>(source: &mut S, ahead: &mut Ahead, limit: usize) -> R
     ensures room { length ahead.new ≤ most_ahead }
     ensures found { IfOk result (λ found. IsFound limit ahead.new (S.left source.new) found) }
     ensures open { OnErr result ((length ahead.new ≤ limit) × HasNoFeed ahead.new (length ahead.new)) }
+    ensures source { TakesSome (S.left source.old) (S.left source.new) }
     ensures cause { HasCause (S.faults source.old) (S.faults source.new) result }
 {
     let mut seen = 0;

@@ -1,9 +1,9 @@
 //! Bytes that are taken as they stand.
 
 ghost use Rattle.std.specs.Prelude.{◌≡◌, ◌+◌, ◌-◌, ◌<◌, ◌≤◌, [], ◌++◌, min, length, take, IfOk, OnErr, IfSome, IsErrOf, MatchBool};
-ghost use Rattle.fault_counts.specs.Counts.{Rose, HasCause};
-ghost use Rattle.fault_counts.specs.Told.{Takes, IsAtEnd};
-ghost use Rattle.oemm_lines.specs.Stream.{left_with, most_ahead, Loses};
+ghost use Rattle.fault_counts.specs.Counts.{HasCause, TellsFailure};
+ghost use Rattle.fault_counts.specs.Told.{Takes, TakesSome, IsAtEnd};
+ghost use Rattle.oemm_lines.specs.Stream.{left_with, most_ahead};
 
 use super::ahead::Ahead;
 use oemm_io::{Failed, Source};
@@ -36,6 +36,7 @@ fn some_ahead<S: Source>(source: &mut S, ahead: &mut Ahead) -> Result<bool, Fail
     ensures grows { length ahead.old ≤ length ahead.new }
     ensures room { length ahead.new ≤ most_ahead }
     ensures asked { OnErr result (ahead.old ≡ []) }
+    ensures source { TakesSome (S.left source.old) (S.left source.new) }
     ensures cause { HasCause (S.faults source.old) (S.faults source.new) result }
 {
     if !ahead.bytes().is_empty() {
@@ -70,13 +71,13 @@ pub fn fill_from<S: Source>(
     ensures fits { IfOk result (λ n. (n ≤ length buf.new) × (n ≤ room)) }
     ensures taken { IfOk result (λ n. Takes (left_with ahead.old (S.left source.old)) (left_with ahead.new (S.left source.new)) (take n buf.new)) }
     ensures whole { IfOk result (λ n. n < length buf.new → (ahead.new ≡ []) × IsAtEnd (S.left source.new)) }
-    ensures lost { OnErr result (Loses (left_with ahead.old (S.left source.old)) (left_with ahead.new (S.left source.new))) }
+    ensures lost { OnErr result (TakesSome (left_with ahead.old (S.left source.old)) (left_with ahead.new (S.left source.new))) }
     ensures past { IsErrOf result Stop.Past → IfSome (left_with ahead.old (S.left source.old)) (λ rest. room < min (length buf.new) (length rest)) }
     ensures wide { IsErrOf result Stop.Past → room < length buf.new }
     ensures asked { IsErrOf result Stop.Failed → length ahead.old < length buf.new }
-    ensures failed { IsErrOf result Stop.Failed → Rose (S.faults source.old) (S.faults source.new) }
     ensures room { length ahead.new ≤ most_ahead }
-    ensures kept { S.faults source.old ≤ S.faults source.new }
+    ensures source { TakesSome (S.left source.old) (S.left source.new) }
+    ensures cause { TellsFailure Stop.Failed (S.faults source.old) (S.faults source.new) result }
 {
     let mut filled = 0;
     while filled < buf.len() {

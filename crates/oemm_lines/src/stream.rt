@@ -99,10 +99,11 @@ impl<S> Lines<S> {
 }
 
 impl<S: Source> Lines<S> {
-    ghost use Rattle.std.specs.Prelude.{◌≡◌, ◌⊎◌, ◌+◌, ◌^◌, ◌<◌, ◌≤◌, None, Some, Err, drop, length, IfSome, IfOk, OnOk, IsErrOf};
+    ghost use Rattle.std.specs.Prelude.{◌≡◌, ◌+◌, ◌^◌, ◌<◌, ◌≤◌, None, Some, Err, drop, length, IfSome, IfOk, OnOk};
     ghost use Rattle.std.specs.Result.{result_err};
-    ghost use Rattle.fault_counts.specs.Counts.{Rose};
-    ghost use Rattle.oemm_lines.specs.Stream.{end_of, flow_left, line_of, GivesNext, RawGives, Says, most_ahead};
+    ghost use Rattle.fault_counts.specs.Counts.{TellsFailure};
+    ghost use Rattle.fault_counts.specs.Told.{TakesSome};
+    ghost use Rattle.oemm_lines.specs.Stream.{end_of, flow_left, line_of, UsesSource, GivesNext, RawGives, Says, most_ahead};
 
     /// The next line, or None at the end of the source. Lines end in a line feed, and one carriage return before that
     /// belongs to their end; the last line may lack its end.
@@ -118,8 +119,8 @@ impl<S: Source> Lines<S> {
         ensures says { Says (flow_left S.left self.old) result (flow_left S.left self.new) }
         ensures size { OnOk result (end_of S.left self.new ≡ end_of S.left self.old) }
         ensures room { length self.new.ahead ≤ most_ahead }
-        ensures kept { S.faults self.old.source ≤ S.faults self.new.source }
-        ensures read { IsErrOf result LineFault.Read → (self.old.fault ≡ Some LineFault.Read) ⊎ Rose (S.faults self.old.source) (S.faults self.new.source) }
+        ensures source { TakesSome (S.left self.old.source) (S.left self.new.source) }
+        ensures cause { self.old.fault ≡ None → TellsFailure LineFault.Read (S.faults self.old.source) (S.faults self.new.source) result }
         ensures same { (self.new.budget ≡ self.old.budget) × (self.new.comments ≡ self.old.comments) }
     {
         if let Some(fault) = self.fault {
@@ -143,8 +144,8 @@ impl<S: Source> Lines<S> {
         ensures gives { RawGives S.left self.old buf.new result self.new }
         ensures size { OnOk result (end_of S.left self.new ≡ end_of S.left self.old) }
         ensures room { length self.new.ahead ≤ most_ahead }
-        ensures kept { S.faults self.old.source ≤ S.faults self.new.source }
-        ensures read { IsErrOf result LineFault.Read → (self.old.fault ≡ Some LineFault.Read) ⊎ Rose (S.faults self.old.source) (S.faults self.new.source) }
+        ensures source { TakesSome (S.left self.old.source) (S.left self.new.source) }
+        ensures cause { self.old.fault ≡ None → TellsFailure LineFault.Read (S.faults self.old.source) (S.faults self.new.source) result }
         ensures same { (self.new.budget ≡ self.old.budget) × (self.new.comments ≡ self.old.comments) }
     {
         if let Some(fault) = self.fault {
@@ -171,8 +172,7 @@ impl<S: Source> Lines<S> {
         ensures calm { self.new.fault ≡ None }
         ensures room { length self.new.ahead ≤ most_ahead }
         ensures gives { RawGives S.left self.old buf.new result self.new }
-        ensures kept { S.faults self.old.source ≤ S.faults self.new.source }
-        ensures read { IsErrOf result LineFault.Read → Rose (S.faults self.old.source) (S.faults self.new.source) }
+        ensures uses { UsesSource S.left S.faults LineFault.Read self.old self.new result }
         ensures same { (self.new.budget ≡ self.old.budget) × (self.new.comments ≡ self.old.comments) }
     {
         let room = self.budget - self.at;
@@ -192,8 +192,7 @@ impl<S: Source> Lines<S> {
         ensures calm { self.new.fault ≡ None }
         ensures room { length self.new.ahead ≤ most_ahead }
         ensures gives { GivesNext S.left self.old result self.new }
-        ensures kept { S.faults self.old.source ≤ S.faults self.new.source }
-        ensures read { IsErrOf result LineFault.Read → Rose (S.faults self.old.source) (S.faults self.new.source) }
+        ensures uses { UsesSource S.left S.faults LineFault.Read self.old self.new result }
         ensures same { (self.new.budget ≡ self.old.budget) × (self.new.comments ≡ self.old.comments) }
     {
         let room = self.budget - self.at;

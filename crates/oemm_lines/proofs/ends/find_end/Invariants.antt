@@ -1,4 +1,5 @@
 use Rattle.std.proofs.Common.{◌≡◌, ◌≤◌, ◌+◌, ◌-◌, length}
+use Rattle.fault_counts.specs.Told.{TakesSome}
 use Rattle.oemm_lines.specs.Lines.{HasNoFeed}
 use Rattle.oemm_lines.specs.Stream.{left_with, most_ahead}
 use Rattle.oemm_lines.proofs.ends.find_end.Given as goal
@@ -10,7 +11,8 @@ invariant-loop-length g l = record {
   none : HasNoFeed l.ahead l.seen;
   left : left_with l.initial.ahead (g.S.Source.left l.initial.source) ≡ left_with l.ahead (g.S.Source.left l.source);
   room : length l.ahead ≤ most_ahead;
-  kept : g.S.Source.faults l.initial.source ≤ g.S.Source.faults l.source;
+  source : TakesSome (g.S.Source.left l.initial.source) (g.S.Source.left l.source);
+  calm : g.S.Source.faults l.source ≡ g.S.Source.faults l.initial.source;
 }
 
 abbrev pub decreases-loop-length : goal.decreases-loop-length

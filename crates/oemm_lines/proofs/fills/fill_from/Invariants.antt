@@ -1,5 +1,5 @@
-use Rattle.std.proofs.Common.{◌≤◌, ◌+◌, ◌-◌, length, take}
-use Rattle.fault_counts.specs.Told.{Takes}
+use Rattle.std.proofs.Common.{◌≡◌, ◌≤◌, ◌+◌, ◌-◌, length, take}
+use Rattle.fault_counts.specs.Told.{Takes, TakesSome}
 use Rattle.oemm_lines.specs.Stream.{left_with, most_ahead}
 use Rattle.oemm_lines.proofs.fills.fill_from.Given as goal
 
@@ -10,7 +10,8 @@ invariant-loop-filled g l = record {
   taken : Takes (left_with l.initial.ahead (g.S.Source.left l.initial.source)) (left_with l.ahead (g.S.Source.left l.source)) (take l.filled l.buf);
   given : length l.initial.ahead ≤ l.filled + length l.ahead;
   room : length l.ahead ≤ most_ahead;
-  kept : g.S.Source.faults l.initial.source ≤ g.S.Source.faults l.source;
+  source : TakesSome (g.S.Source.left l.initial.source) (g.S.Source.left l.source);
+  calm : g.S.Source.faults l.source ≡ g.S.Source.faults l.initial.source;
 }
 
 abbrev pub decreases-loop-filled : goal.decreases-loop-filled
