@@ -1,6 +1,6 @@
 -- What the lines of held bytes say, call by call.
-use Rattle.std.proofs.Common.{◌≡◌, ℕ, true, List, ◌++◌, Option, Some, None, Ok, Err, IsErrOf, ◌⊎◌, inl, inr, refl, ap, subst, ◌∙◌, arith}
-use Rattle.fault_counts.specs.Counts.{Rose}
+use Rattle.std.proofs.Common.{◌≡◌, ℕ, true, List, ◌++◌, Option, Some, None, Ok, Err, refl, ap, subst, ◌∙◌, arith}
+use Rattle.fault_counts.specs.Counts.{Rose, TellsFailure}
 use Rattle.fault_counts.specs.Told.{Told}
 use Rattle.oemm_lines.specs.declared.parts.Line.{Line}
 use Rattle.oemm_lines.specs.declared.parts.LineFault.{LineFault}
@@ -41,13 +41,10 @@ none_told old new answer is says =
 
 -- a source that never fails gives no fault of reading
 pub never_read :
-    (before : Option LineFault) (fault : LineFault) → before ≡ None →
-    (IsErrOf {T = Option Line} (Err fault) line.Read → (before ≡ Some line.Read) ⊎ Rose 0 0) → fault ≡ line.Read → ⊥
-never_read before fault calm read is =
-    elim (read (ap Err is)) [
-      | inl stood ↦ cc
-      | inr rose ↦ omega arith
-    ]
+    (fault : LineFault) → TellsFailure {T = Option Line} line.Read 0 0 (Err fault) → fault ≡ line.Read → ⊥
+never_read fault tells is =
+    let rose : Rose 0 0 = tells.cause (ap Err is) in
+    omega arith
 
 -- a fault was given, and not that of a source that failed
 pub fault_told :

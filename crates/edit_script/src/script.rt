@@ -1,9 +1,8 @@
 //! A script that is read from its source.
 
-ghost use Rattle.std.specs.Prelude.{◌≡◌, ◌≤◌, ◌^◌, true, OnOk, IfOk, IfErr, IfSome, IsErrOf, length};
-ghost use Rattle.fault_counts.specs.Counts.{Rose};
-ghost use Rattle.fault_counts.specs.Told.{IsAtEnd};
-ghost use Rattle.oemm_io.specs.Whole.{TakesSome};
+ghost use Rattle.std.specs.Prelude.{◌≡◌, ◌≤◌, ◌^◌, true, OnOk, IfOk, IfErr, IfSome, length};
+ghost use Rattle.fault_counts.specs.Counts.{TellsFailure};
+ghost use Rattle.fault_counts.specs.Told.{TakesSome, IsAtEnd};
 ghost use Rattle.oemm_lines.specs.Stream.{fresh_stream};
 ghost use Rattle.edit_script.specs.Grammar.{most_bytes, script_of};
 ghost use Rattle.edit_script.specs.Ranges.{AreTasks};
@@ -24,8 +23,7 @@ use std::alloc::{AllocError, Global};
 /// `Memory`. Each time the source has lost the bytes that were taken until then.
 pub fn read_script<S: Source>(alloc: Global, source: S) -> (S, Result<Script, ScriptFault>)
     ensures told { IfSome (S.left source) (λ bytes. GivesScript result.1 (script_of bytes)) }
-    ensures read { IsErrOf result.1 ScriptFault.Read → Rose (S.faults source) (S.faults result.0) }
-    ensures kept { S.faults source ≤ S.faults result.0 }
+    ensures cause { TellsFailure ScriptFault.Read (S.faults source) (S.faults result.0) result.1 }
     ensures some { TakesSome (S.left source) (S.left result.0) }
     ensures ok { IfOk result.1 (TakesScript (S.left source) (S.left result.0)) }
     ensures ok_end { OnOk result.1 (IsAtEnd (S.left result.0)) }

@@ -2,7 +2,7 @@
 use Rattle.std.proofs.Common.{◌≡◌, ℕ, ◌+◌, true, false, List, [], length, Option, Some, None, IfSome, refl, arith}
 use Rattle.std.specs.Option.{option_map}
 use Rattle.fault_counts.specs.Told.{Told, IsAtEnd}
-use Rattle.mesh_data.specs.declared.items.MeshFault.TheVariants.{Read, Text}
+use Rattle.mesh_data.specs.declared.items.MeshFault.TheVariants.{Text}
 use Rattle.mesh_data.specs.declared.items.MeshWhy.TheVariants.{Cut}
 use Rattle.oemm_lines.specs.declared.parts.Line.{Line}
 use Rattle.oemm_lines.specs.declared.parts.LineFault.{LineFault}
@@ -54,13 +54,6 @@ pub filled_fault : {S : Type 0} (told : S → Told) (old new : Stream S) (fault 
 filled_fault told old new fault stays says text =
     stopped_by (end_of told new) (end_of told old) (flow_left told old) (flow_left told new) fault
     (rw (stays.left, stays.place) refl) says text
-
--- a fault of reading is one of the source
-pub read_by_source : (fault : LineFault) → fault_of fault ≡ Read → fault ≡ line.Read
-read_by_source line.Read is = refl
-read_by_source (line.TooLong at) is = cc
-read_by_source (line.Bytes taken) is = cc
-read_by_source line.Memory is = cc
 
 -- a line with words is the first, and one without is none
 pub skipped : (l : Line) (old new : Option Filled) → has_words l ≡ false → old ≡ option_map (with_line l) new → old ≡ new

@@ -1,9 +1,9 @@
 //! The vertices and faces of a mesh.
 
-ghost use Rattle.std.specs.Prelude.{◌≡◌, ◌+◌, ◌≤◌, ◌<◌, None, IfOk, OnOk, IsErrOf};
+ghost use Rattle.std.specs.Prelude.{◌≡◌, ◌+◌, ◌<◌, None, IfOk, OnOk};
 ghost use Rattle.std.specs.Option.{option_map};
-ghost use Rattle.fault_counts.specs.Counts.{Rose};
 ghost use Rattle.mesh_data.specs.Reading.{fault_alone};
+ghost use Rattle.oemm_lines.specs.Stream.{UsesSource};
 ghost use Rattle.mesh_reading.specs.Progress.{MayFollow};
 ghost use Rattle.off_reader.specs.Reader.{filled_left, body_at, item_before, Pops};
 
@@ -25,8 +25,7 @@ pub fn next_item<S: Source>(
     ensures told { Pops (item_before vertices faces done) fault_alone (option_map (body_at vertices faces done) (filled_left S.left lines.old)) result (filled_left S.left lines.new) }
     ensures calm { OnOk result (lines.new.fault ≡ None) }
     ensures follows { IfOk result (MayFollow vertices done) }
-    ensures kept { S.faults lines.old.source ≤ S.faults lines.new.source }
-    ensures read { IsErrOf result MeshFault.Read → Rose (S.faults lines.old.source) (S.faults lines.new.source) }
+    ensures uses { UsesSource S.left S.faults MeshFault.Read lines.old lines.new result }
 {
     let line = next_filled(lines)?;
     item_of(&line, vertices, done)

@@ -1,8 +1,7 @@
 //! The lines that have words.
 
-ghost use Rattle.std.specs.Prelude.{◌≡◌, ◌≤◌, ◌<◌, None, IfOk, OnOk, IsErrOf};
-ghost use Rattle.fault_counts.specs.Counts.{Rose};
-ghost use Rattle.oemm_lines.specs.Stream.{IsPlaced};
+ghost use Rattle.std.specs.Prelude.{◌≡◌, ◌≤◌, ◌<◌, None, IfOk, OnOk};
+ghost use Rattle.oemm_lines.specs.Stream.{IsPlaced, UsesSource};
 ghost use Rattle.off_reader.specs.Grammar.{has_words};
 ghost use Rattle.off_reader.specs.Reader.{filled_left, led_by, with_line, ended_by, Pops};
 
@@ -12,15 +11,14 @@ use oemm_io::Source;
 use oemm_lines::{Line, Lines};
 
 /// The next line.
-#[tactic(auto, using(crate::proofs::LineSteps::filled_line, crate::proofs::LineSteps::filled_cut, crate::proofs::LineSteps::filled_fault, crate::proofs::LineSteps::read_by_source))]
+#[tactic(auto, using(crate::proofs::LineSteps::filled_line, crate::proofs::LineSteps::filled_cut, crate::proofs::LineSteps::filled_fault, mesh_reading::proofs::Failures::failure_told_on))]
 fn next_line<S: Source>(lines: &mut Lines<S>) -> Result<Line, MeshFault>
     requires { lines.old.fault ≡ None }
     ensures told { Pops with_line ended_by (filled_left S.left lines.old) result (filled_left S.left lines.new) }
     ensures calm { OnOk result (lines.new.fault ≡ None) }
     ensures placed { IfOk result IsPlaced }
     ensures rises { OnOk result ((lines.old.at < lines.new.at) × (lines.new.at ≤ lines.new.budget)) }
-    ensures kept { S.faults lines.old.source ≤ S.faults lines.new.source }
-    ensures read { IsErrOf result MeshFault.Read → Rose (S.faults lines.old.source) (S.faults lines.new.source) }
+    ensures uses { UsesSource S.left S.faults MeshFault.Read lines.old lines.new result }
     ensures same { lines.new.budget ≡ lines.old.budget }
 {
     match lines.next() {
@@ -47,8 +45,7 @@ pub fn next_filled<S: Source>(lines: &mut Lines<S>) -> Result<Line, MeshFault>
     ensures told { Pops led_by ended_by (filled_left S.left lines.old) result (filled_left S.left lines.new) }
     ensures calm { OnOk result (lines.new.fault ≡ None) }
     ensures placed { IfOk result IsPlaced }
-    ensures kept { S.faults lines.old.source ≤ S.faults lines.new.source }
-    ensures read { IsErrOf result MeshFault.Read → Rose (S.faults lines.old.source) (S.faults lines.new.source) }
+    ensures uses { UsesSource S.left S.faults MeshFault.Read lines.old lines.new result }
 {
     loop {
         let line = next_line(lines)?;

@@ -1,9 +1,9 @@
 //! The first line of a mesh and its counts.
 
-ghost use Rattle.std.specs.Prelude.{◌≡◌, ◌≤◌, None, IfOk, OnOk, IsErrOf};
+ghost use Rattle.std.specs.Prelude.{◌≡◌, None, IfOk, OnOk};
 ghost use Rattle.std.specs.Option.{option_map};
-ghost use Rattle.fault_counts.specs.Counts.{Rose};
 ghost use Rattle.mesh_data.specs.Reading.{fault_alone};
+ghost use Rattle.oemm_lines.specs.Stream.{UsesSource};
 ghost use Rattle.mesh_reading.specs.Progress.{AreLimited};
 ghost use Rattle.off_reader.specs.Grammar.{mesh_reading};
 ghost use Rattle.off_reader.specs.Reader.{filled_left, counts_at, counts_before, Pops};
@@ -21,8 +21,7 @@ fn next_counts<S: Source>(lines: &mut Lines<S>) -> Result<(u32, u32), MeshFault>
     ensures told { Pops counts_before fault_alone (option_map counts_at (filled_left S.left lines.old)) result (filled_left S.left lines.new) }
     ensures calm { OnOk result (lines.new.fault ≡ None) }
     ensures limited { IfOk result (λ counts. AreLimited counts.0 counts.1) }
-    ensures kept { S.faults lines.old.source ≤ S.faults lines.new.source }
-    ensures read { IsErrOf result MeshFault.Read → Rose (S.faults lines.old.source) (S.faults lines.new.source) }
+    ensures uses { UsesSource S.left S.faults MeshFault.Read lines.old lines.new result }
 {
     let line = next_filled(lines)?;
     counts_of(&line, 0)
@@ -35,8 +34,7 @@ pub fn begin<S: Source>(lines: &mut Lines<S>) -> Result<(u32, u32), MeshFault>
     ensures told { Pops counts_before fault_alone (option_map mesh_reading (filled_left S.left lines.old)) result (filled_left S.left lines.new) }
     ensures calm { OnOk result (lines.new.fault ≡ None) }
     ensures limited { IfOk result (λ counts. AreLimited counts.0 counts.1) }
-    ensures kept { S.faults lines.old.source ≤ S.faults lines.new.source }
-    ensures read { IsErrOf result MeshFault.Read → Rose (S.faults lines.old.source) (S.faults lines.new.source) }
+    ensures uses { UsesSource S.left S.faults MeshFault.Read lines.old lines.new result }
 {
     let line = next_filled(lines)?;
     if !is_head(&line) {

@@ -1,9 +1,9 @@
 //! How far a mesh was read.
 
-ghost use Rattle.std.specs.Prelude.{◌≡◌, ◌≤◌, None, Ok, IfOk, OnOk, IsErrOf};
+ghost use Rattle.std.specs.Prelude.{◌≡◌, None, Ok, IfOk, OnOk};
 ghost use Rattle.std.specs.Option.{option_map};
-ghost use Rattle.fault_counts.specs.Counts.{Rose};
 ghost use Rattle.mesh_data.specs.Reading.{fault_alone, IsComplete};
+ghost use Rattle.oemm_lines.specs.Stream.{UsesSource};
 ghost use Rattle.off_reader.specs.Reader.{filled_left, given_of, rest_of, stepped_reading, GivesNext, IsCounted, Pops};
 
 use super::body::next_item;
@@ -33,8 +33,7 @@ pub fn step<S: Source>(
     ensures given { IfOk result (GivesNext p) }
     ensures complete { IsComplete (given_of p None) → (result ≡ Ok None) × (lines.new ≡ lines.old) }
     ensures calm { OnOk result (lines.new.fault ≡ None) }
-    ensures kept { S.faults lines.old.source ≤ S.faults lines.new.source }
-    ensures read { IsErrOf result MeshFault.Read → Rose (S.faults lines.old.source) (S.faults lines.new.source) }
+    ensures uses { UsesSource S.left S.faults MeshFault.Read lines.old lines.new result }
 {
     let Some((vertices, faces)) = p.counts else {
         let (v, f) = begin(lines)?;

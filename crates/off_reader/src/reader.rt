@@ -71,14 +71,17 @@ impl<S: Source> OffReader<S> {
 }
 
 impl<S: Source> Items for OffReader<S> {
-    ghost use Rattle.std.specs.Prelude.{◌≡◌, ◌≤◌, ◌⊎◌, None, Some, Ok, Err, IfSome};
-    ghost use Rattle.fault_counts.specs.Counts.{Rose};
+    ghost use Rattle.std.specs.Prelude.{◌≡◌, None, Ok, Err, IfSome};
+    ghost use Rattle.fault_counts.specs.Counts.{TellsFailure};
+    ghost use Rattle.fault_counts.specs.Told.{TakesSome};
     ghost use Rattle.mesh_data.specs.Reading.{IsComplete, Steps, Reads};
     ghost use Rattle.off_reader.specs.Reader.{given_of, reading_left};
 
     ghost given = { λ r. given_of r.progress r.fault };
 
     ghost reading = { λ r. reading_left S.left r };
+
+    ghost left = { λ r. S.left r.lines.source };
 
     ghost faults = { λ r. S.faults r.lines.source };
 
@@ -90,9 +93,11 @@ impl<S: Source> Items for OffReader<S> {
     fn next(&mut self) -> Result<Option<Item>, MeshFault>
         ensures given { Steps (given_of self.old.progress self.old.fault) result (given_of self.new.progress self.new.fault) }
         ensures told { Reads (reading_left S.left self.old) result (reading_left S.left self.new) }
-        ensures kept { S.faults self.old.lines.source ≤ S.faults self.new.lines.source }
-        ensures read { result ≡ Err MeshFault.Read → ((given_of self.old.progress self.old.fault).fault ≡ Some MeshFault.Read) ⊎ Rose (S.faults self.old.lines.source) (S.faults self.new.lines.source) }
-        ensures complete { self.old.fault ≡ None → IsComplete (given_of self.old.progress self.old.fault) → (result ≡ Ok None) × (self.new ≡ self.old) }
+        ensures left { TakesSome (S.left self.old.lines.source) (S.left self.new.lines.source) }
+        ensures cause { self.old.fault ≡ None →
+            TellsFailure MeshFault.Read (S.faults self.old.lines.source) (S.faults self.new.lines.source) result }
+        ensures end { self.old.fault ≡ None → IsComplete (given_of self.old.progress self.old.fault) →
+            (result ≡ Ok None) × (self.new ≡ self.old) }
         ensures again { IfSome self.old.fault (λ fault. (result ≡ Err fault) × (self.new ≡ self.old)) }
     {
         if let Some(fault) = self.fault {

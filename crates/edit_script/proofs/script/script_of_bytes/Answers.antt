@@ -70,7 +70,7 @@ pub returns-in_err-line-clause-err : goal.returns-in_err-line-clause-err
 returns-in_err-line-clause-err c =
     let p = err_from_is_err_and c.from_residual-in_err-line.result c.from_residual-in_err-line.ensures.1 in
     let lines = script_of_short c.args.bytes.now c.requires ∙ c.loop-draft.invariant.tasks in
-    let other = never_read c.loop-draft.lines.fault c.in_err-line.field-0.0 c.loop-draft.invariant.calm c.in_err-line.ensures.read in
+    let other = never_read c.in_err-line.field-0.0 (c.in_err-line.ensures.cause c.loop-draft.invariant.calm) in
     rw (p.1, p.2) (rw lines (fault_told _ _ _ _ other c.in_err-line.ensures.says))
 
 pub returns-in_err-read_line-clause-err : goal.returns-in_err-read_line-clause-err
