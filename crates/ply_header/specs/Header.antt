@@ -1,6 +1,6 @@
 -- What the lines of a PLY header declare, one line after another. Of each line, at is the number of bytes before it,
 -- and its words are looked at one by one.
-use Rattle.std.specs.Prelude.{ℕ, ◌^◌, Bool, true, false, not, ◌&&◌, nat_lt, nat_le, List, [], ◌∷◌, ◌++◌, codes, if◌then◌else◌, Option, Some, None, is_some, is_none, Result, Ok, Err}
+use Rattle.std.specs.Prelude.{◌≡◌, ◌⊎◌, ℕ, ◌^◌, Bool, true, false, not, ◌&&◌, nat_lt, nat_le, List, [], ◌∷◌, ◌++◌, codes, if◌then◌else◌, Option, Some, None, is_some, is_none, Result, Ok, Err}
 use Rattle.std.specs.Option.{ok_or}
 use Rattle.std.specs.List.{list_any}
 use Rattle.std.specs.Str.{bytes_eq}
@@ -206,6 +206,18 @@ header_after h at (word ∷ words) =
     if is_remark word then Ok h
     else if is_none h.order then (format_of at (word ∷ words) >>= λ order. Ok (record h { order = Some order }))
     else declared_by h at word words
+
+-- the later header keeps a foreign element more
+abbrev pub KeepsElement : Header → Header → Type 0
+KeepsElement old new = (e : Element) × ((new.before ≡ old.before ++ e ∷ []) ⊎ (new.between ≡ old.between ++ e ∷ []))
+
+-- the later header keeps a property more of the element that was declared last
+abbrev pub KeepsProperty : Header → Header → Type 0
+KeepsProperty old new = (e : Element) × (p : Property) × (old.last ≡ Some e) × (new.last ≡ Some (longer e p))
+
+-- the later header keeps more than the earlier one
+abbrev pub KeepsMore : Header → Header → Type 0
+KeepsMore old new = KeepsElement old new ⊎ KeepsProperty old new
 
 -- whether the line with these words ends the header
 abbrev pub ends : Header → List (List ℕ) → Bool

@@ -1,9 +1,10 @@
 //! The lines of a header that declare an element.
 
-ghost use Rattle.std.specs.Prelude.{◌≡◌, ◌∷◌, ◌++◌, [], IfOk, IfErr};
+ghost use Rattle.std.specs.Prelude.{◌≡◌, ℕ, ◌∷◌, ◌++◌, [], is_some, IfOk, IfErr, IsErr, IsErrOf, IsOkAnd};
 ghost use Rattle.mesh_reading.specs.Results.{IsOfText};
 ghost use Rattle.ply_header.specs.Results.{Answers};
 ghost use Rattle.ply_header.specs.Header as grammar;
+ghost use Rattle.ply_header.specs.Header.{KeepsElement, KeepsMore};
 ghost use Rattle.ply_header.specs.Limits.{HasFew, IsLimited, IsStored};
 
 use super::layout::{Element, Header, Properties, Role};
@@ -32,6 +33,7 @@ fn placed(header: Header, element: Element) -> Result<Header, MeshFault>
     ensures ok { IfOk result (λ done. done ≡ grammar.placed_element element element.role header) }
     ensures few { IfOk result IsLimited }
     ensures err { IfErr result (λ fault. fault ≡ MeshFault.Memory) }
+    ensures memory { IsErr result → KeepsElement header (grammar.placed_element element element.role header) }
 {
     match element.role {
         Role::Vertices => Ok(Header {
@@ -54,6 +56,7 @@ fn placed_foreign(header: Header, element: Element) -> Result<Header, MeshFault>
     ensures ok { IfOk result (λ done. done ≡ grammar.placed_element element Role.Foreign header) }
     ensures few { IfOk result IsLimited }
     ensures err { IfErr result (λ fault. fault ≡ MeshFault.Memory) }
+    ensures memory { IsErr result → KeepsElement header (grammar.placed_element element Role.Foreign header) }
 {
     if header.vertex.is_none() {
         let before = pushed(header.before, element)?;
@@ -78,11 +81,12 @@ fn placed_foreign(header: Header, element: Element) -> Result<Header, MeshFault>
 }
 
 /// The header with its last element put where it stands, so that another can follow.
-pub fn closed(mut header: Header) -> Result<Header, MeshFault>
+fn closed(mut header: Header) -> Result<Header, MeshFault>
     requires { IsLimited header }
     ensures ok { IfOk result (λ done. done ≡ grammar.closed header) }
     ensures few { IfOk result IsLimited }
     ensures err { IfErr result (λ fault. fault ≡ MeshFault.Memory) }
+    ensures memory { IsErr result → KeepsElement header (grammar.closed header) }
 {
     match header.last.take() {
         None => Ok(header),
@@ -90,22 +94,75 @@ pub fn closed(mut header: Header) -> Result<Header, MeshFault>
     }
 }
 
+/// The header in which no element is open and which declares the same layout. A foreign element that was declared last
+/// isn't kept: behind the faces none is, and a header that ends in front of them declares no layout.
+pub fn finished(mut header: Header) -> Header
+    requires { IsLimited header }
+    ensures same { (at : ℕ) → grammar.laid_out at result ≡ grammar.laid_out at (grammar.closed header) }
+    ensures few { IsStored result }
+{
+    let Some(element) = header.last.take() else {
+        return header;
+    };
+    match element.role {
+        Role::Vertices => Header {
+            vertex: Some(element),
+            ..header
+        },
+        Role::Faces => Header {
+            face: Some(element),
+            ..header
+        },
+        Role::Foreign => header,
+    }
+}
+
+/// Whether the vertices were declared.
+fn has_vertices(header: &Header) -> bool
+    ensures { result ≡ is_some (grammar.closed header.now).vertex }
+{
+    match &header.last {
+        Some(
+            Element {
+                role: Role::Vertices,
+                ..
+            },
+        ) => true,
+        _ => header.vertex.is_some(),
+    }
+}
+
+/// Whether the faces were declared.
+fn has_faces(header: &Header) -> bool
+    ensures { result ≡ is_some (grammar.closed header.now).face }
+{
+    match &header.last {
+        Some(
+            Element {
+                role: Role::Faces,
+                ..
+            },
+        ) => true,
+        _ => header.face.is_some(),
+    }
+}
+
 /// What is wrong with an element of this role behind the elements of a header.
 fn role_fault(role: Role, header: &Header) -> Option<MeshWhy>
-    ensures { result ≡ grammar.role_fault role header.now }
+    ensures { result ≡ grammar.role_fault role (grammar.closed header.now) }
 {
     match role {
         Role::Vertices => {
-            if header.vertex.is_some() {
+            if has_vertices(header) {
                 Some(MeshWhy::Twice)
             } else {
                 None
             }
         }
         Role::Faces => {
-            if header.face.is_some() {
+            if has_faces(header) {
                 Some(MeshWhy::Twice)
-            } else if header.vertex.is_none() {
+            } else if !has_vertices(header) {
                 Some(MeshWhy::FaceFirst)
             } else {
                 None
@@ -170,14 +227,15 @@ pub fn with_element(
     requires { IsLimited header }
     ensures answers { Answers (grammar.with_element header at words.entry) result }
     ensures few { IfOk result IsLimited }
+    ensures memory { IsErrOf result MeshFault.Memory → IsOkAnd (grammar.with_element header at words.entry) (KeepsMore header) }
 {
     let name = next_word(at, &mut words)?;
     let role = role_named(name);
-    let header = closed(header)?;
     if let Some(why) = role_fault(role, &header) {
         return Err(fault_at(at, why));
     }
     let count = last_count_of(at, role, words)?;
+    let header = closed(header)?;
     let properties = Properties::new(alloc);
     Ok(Header {
         last: Some(Element {

@@ -1,12 +1,13 @@
 //! The lines of a header.
 
-ghost use Rattle.std.specs.Prelude.{◌≡◌, ◌∷◌, IfOk, IfErr};
+ghost use Rattle.std.specs.Prelude.{◌≡◌, ◌∷◌, IfOk, IfErr, IsErrOf, IsOkAnd};
 ghost use Rattle.mesh_reading.specs.Results.{IsOfText};
 ghost use Rattle.ply_header.specs.Results.{Answers};
 ghost use Rattle.ply_header.specs.Header as grammar;
-ghost use Rattle.ply_header.specs.Limits.{IsLaidOut, IsLimited};
+ghost use Rattle.ply_header.specs.Header.{KeepsMore};
+ghost use Rattle.ply_header.specs.Limits.{IsLaidOut, IsLimited, IsStored};
 
-use super::elements::{closed, pushed, with_element};
+use super::elements::{finished, pushed, with_element};
 use super::layout::{Axis, ByteOrder, Element, Elements, Header, Layout, Property};
 use super::names::is_either;
 use super::properties::{at_line_end, has_axis, has_corners, next_word, property_of};
@@ -86,6 +87,7 @@ fn with_property(mut header: Header, at: u64, words: WordsLeft<'_>) -> Result<He
     requires { IsLimited header }
     ensures answers { Answers (grammar.with_property header at words.entry) result }
     ensures few { IfOk result IsLimited }
+    ensures memory { IsErrOf result MeshFault.Memory → IsOkAnd (grammar.with_property header at words.entry) (KeepsMore header) }
 {
     let Some(element) = header.last.take() else {
         return Err(fault_at(at, MeshWhy::HeadLine));
@@ -110,6 +112,7 @@ fn declared_by(
     requires { IsLimited header }
     ensures answers { Answers (grammar.declared_by header at word.now words.entry) result }
     ensures few { IfOk result IsLimited }
+    ensures memory { IsErrOf result MeshFault.Memory → IsOkAnd (grammar.declared_by header at word.now words.entry) (KeepsMore header) }
 {
     if word == b"element".as_slice() {
         return with_element(alloc, header, at, words);
@@ -123,7 +126,8 @@ fn declared_by(
 /// The header behind a line with these words, which stands at this place and doesn't end it.
 ///
 /// # Errors
-/// What is wrong with the line, at its place; `TooMany` where it declares more vertices or faces than 2^24; `Memory`.
+/// What is wrong with the line, at its place; `TooMany` where it declares more vertices or faces than 2^24; `Memory`,
+/// where nothing is wrong with it and there is a foreign element or a property to keep.
 #[tactic(auto, using(crate::proofs::ResultLaws::answers_exact), unfolding(crate::specs::Header::header_after))]
 pub fn header_after(
     alloc: Global,
@@ -134,6 +138,7 @@ pub fn header_after(
     requires { IsLimited header }
     ensures answers { Answers (grammar.header_after header at words.entry) result }
     ensures few { IfOk result IsLimited }
+    ensures memory { IsErrOf result MeshFault.Memory → IsOkAnd (grammar.header_after header at words.entry) (KeepsMore header) }
 {
     let Some(word) = words.next() else {
         return Ok(header);
@@ -182,7 +187,7 @@ fn missing(vertex: &[Property], face: &[Property]) -> Option<MeshWhy>
 /// The layout that a header declares, of which no element is open.
 #[tactic(auto, unfolding(crate::specs::Header::laid_out))]
 fn laid_out(at: u64, header: Header) -> Result<Layout, MeshFault>
-    requires { IsLimited header }
+    requires { IsStored header }
     ensures exact { result ≡ grammar.laid_out at header }
     ensures few { IfOk result IsLaidOut }
     ensures fault { IfErr result IsOfText }
@@ -211,16 +216,14 @@ fn laid_out(at: u64, header: Header) -> Result<Layout, MeshFault>
 /// The layout at the line with these words, which stands at this place and ends the header.
 ///
 /// # Errors
-/// `NoElement` and `NoProperty` where something is missing, `HeadLine` where a further word stands on the line, and
-/// `Memory`.
-#[tactic(auto, using(crate::proofs::ResultLaws::answers_exact))]
+/// `NoElement` and `NoProperty` where something is missing, and `HeadLine` where a further word stands on the line.
 pub fn layout_of(header: Header, at: u64, mut words: WordsLeft<'_>) -> Result<Layout, MeshFault>
     requires { IsLimited header }
-    ensures answers { Answers (grammar.layout_of header at words.entry) result }
+    ensures exact { result ≡ grammar.layout_of header at words.entry }
     ensures few { IfOk result IsLaidOut }
+    ensures fault { IfErr result IsOfText }
 {
     next_word(at, &mut words)?;
-    let header = closed(header)?;
-    let layout = laid_out(at, header)?;
+    let layout = laid_out(at, finished(header))?;
     at_line_end(at, layout, words)
 }

@@ -1,5 +1,5 @@
 -- Records that are passed over.
-use Rattle.std.proofs.Common.{◌≡◌, ℕ, zero, suc, ◌+◌, ◌-◌, ◌*◌, ◌<◌, ◌≤◌, Bool, true, false, List, [], ◌∷◌, length, get_or, drop, drop-cons, Option, Some, None, Result, Ok, Err, refl, ap, sym, ◌∙◌, add-one, arith}
+use Rattle.std.proofs.Common.{◌≡◌, ℕ, zero, suc, ◌+◌, ◌-◌, ◌*◌, ◌<◌, ◌≤◌, min, Bool, true, false, List, [], ◌∷◌, length, get_or, drop, drop-cons, Option, Some, None, Result, Ok, Err, refl, ap, sym, ◌∙◌, add-one, arith}
 use Rattle.std.specs.Option.{option_map}
 use Rattle.std.proofs.lemmas.List.{drop_all}
 use Rattle.std.proofs.Math.Nat.{suc-mul}
@@ -11,6 +11,7 @@ use Rattle.mesh_reading.specs.Results.{◌>>=◌}
 use Rattle.mesh_reading.specs.Faults.{most_mesh_bytes}
 use Rattle.ply_header.specs.declared.layout.ByteOrder.{ByteOrder}
 use Rattle.ply_header.specs.declared.layout.ScalarType.{ScalarType}
+use Rattle.ply_header.specs.declared.layout.ScalarType.TheVariants.{I8, U8, I16, U16, I32, U32, F32, F64}
 use Rattle.ply_header.specs.declared.layout.Property.{Property}
 use Rattle.ply_header.specs.declared.layout.Property.TheVariants.{Coordinate, Corners, Single, Many}
 use Rattle.ply_header.specs.declared.layout.Element.{Element}
@@ -19,17 +20,46 @@ use Rattle.ply_reader.specs.declared.values.Record.{Record}
 use Rattle.ply_header.specs.Layout.{size_of}
 use Rattle.ply_reader.specs.Body.{Rest, forward, passed, no_values, property_in, properties_in, foreign_record, record_passed, records_passed, elements_passed}
 use Rattle.ply_reader.specs.Feed.{Feed, rest_with, rest_left, found, Fails, IsOpen, fixed_from}
-use Rattle.ply_reader.proofs.FeedLaws.{passed-more, passed-split, passed-none, chosen, passed-chosen}
+use Rattle.ply_reader.proofs.FeedLaws.{passed-more, passed-capped, passed-split, passed-none, chosen, passed-chosen}
 use Rattle.ply_reader.proofs.StepLaws.{behind_then, passes_then, fails_behind, some_is}
 
 pub from_place : {A : Type 0} (xs : List A) (i : ℕ) (d : A) → i < length xs → drop i xs ≡ get_or xs i d ∷ drop (i + 1) xs
 from_place xs i d below = drop-cons xs i d below ∙ ap (λ n. get_or xs i d ∷ drop n xs) (sym (add-one i))
+
+-- a number has at most eight bytes
+pub size_below : (number : ScalarType) → size_of number ≤ 8
+size_below I8 = omega arith
+size_below U8 = omega arith
+size_below I16 = omega arith
+size_below U16 = omega arith
+size_below I32 = omega arith
+size_below U32 = omega arith
+size_below F32 = omega arith
+size_below F64 = omega arith
+
+-- a property that isn't a number has no fixed size, nor have properties among which it is
+pub fixed_not : (p : Property) → ((number : ScalarType) → p ≡ Single number → ⊥) → fixed_from 0 (p ∷ []) ≡ None
+unfolding fixed_from
+fixed_not (Single number) other = absurd (other number refl)
+fixed_not (Coordinate axis number) other = refl
+fixed_not (Corners count item) other = refl
+fixed_not (Many count item) other = refl
+
+fixed_none : (p : Property) (ps : List Property) (n : ℕ) → fixed_from 0 (p ∷ []) ≡ None → fixed_from n (p ∷ ps) ≡ None
+unfolding fixed_from
+fixed_none (Single number) ps n stops = absurd cc
+fixed_none (Coordinate axis number) ps n stops = refl
+fixed_none (Corners count item) ps n stops = refl
+fixed_none (Many count item) ps n stops = refl
 
 -- the size of properties, one behind another
 pub fixed_next : (ps : List Property) (i n : ℕ) (d : Property) (number : ScalarType) → i < length ps → get_or ps i d ≡ Single number → fixed_from (n + size_of number) (drop (i + 1) ps) ≡ fixed_from n (drop i ps)
 unfolding fixed_from
 fixed_next ps i n d number below is =
     sym (ap (fixed_from n) (from_place ps i d below ∙ ap (λ p. p ∷ drop (i + 1) ps) is))
+
+pub fixed_stops : (ps : List Property) (i n : ℕ) (d : Property) → i < length ps → fixed_from 0 (get_or ps i d ∷ []) ≡ None → fixed_from n (drop i ps) ≡ None
+fixed_stops ps i n d below stops = ap (fixed_from n) (from_place ps i d below) ∙ fixed_none (get_or ps i d) (drop (i + 1) ps) n stops
 
 pub fixed_done : (ps : List Property) (i n : ℕ) → length ps ≤ i → fixed_from n (drop i ps) ≡ Some n
 unfolding fixed_from
@@ -170,9 +200,16 @@ records_fixed o ps size (suc n) r fixed limit =
 pub fixed_records : (o : ByteOrder) (ps : List Property) (size n : ℕ) (r : Rest) → fixed_from 0 ps ≡ Some size → r.at ≤ most_mesh_bytes → records_passed o ps n r ≡ passed (n * size) r
 fixed_records o ps size n r is limit = records_fixed o ps size n r (fixed_is ps 0 size is) limit
 
-fixed_over : (o : ByteOrder) (ps : List Property) (size n at : ℕ) (ahead : List ℕ) (left : Told) → IsFixed ps 0 size → at ≤ most_mesh_bytes → option_map (passed (n * size)) (option_map (rest_with (at - length ahead) ahead) left) ≡ option_map (records_passed o ps n) (option_map (rest_with (at - length ahead) ahead) left)
-fixed_over o ps size n at ahead None fixed limit = refl
-fixed_over o ps size n at ahead (Some rest) fixed limit = ap Some (sym (records_fixed o ps size n (rest_with (at - length ahead) ahead rest) fixed (omega arith)))
+-- so many records at once, where no more bytes are counted than a number past the limit
+fixed_over :
+    (o : ByteOrder) (ps : List Property) (size n most at : ℕ) (ahead : List ℕ) (left : Told) → IsFixed ps 0 size → most_mesh_bytes < most → at ≤ most_mesh_bytes →
+    option_map (passed (min (n * size) most)) (option_map (rest_with (at - length ahead) ahead) left) ≡ option_map (records_passed o ps n) (option_map (rest_with (at - length ahead) ahead) left)
+fixed_over o ps size n most at ahead None fixed beyond limit = refl
+fixed_over o ps size n most at ahead (Some rest) fixed beyond limit =
+    let r = rest_with (at - length ahead) ahead rest in
+    ap Some (passed-capped (n * size) most r beyond ∙ sym (records_fixed o ps size n r fixed (omega arith)))
 
-pub fixed_passes : {S : Type 0} (told : S → Told) (f : Feed S) (o : ByteOrder) (ps : List Property) (size n : ℕ) → fixed_from 0 ps ≡ Some size → IsOpen f → option_map (passed (n * size)) (rest_left told f) ≡ option_map (records_passed o ps n) (rest_left told f)
-fixed_passes told f o ps size n is open_still = fixed_over o ps size n f.stream.at f.ahead (left_of told f.stream) (fixed_is ps 0 size is) open_still.1
+pub fixed_passes :
+    {S : Type 0} (told : S → Told) (f : Feed S) (o : ByteOrder) (ps : List Property) (size n most : ℕ) → fixed_from 0 ps ≡ Some size → most_mesh_bytes < most → IsOpen f →
+    option_map (passed (min (n * size) most)) (rest_left told f) ≡ option_map (records_passed o ps n) (rest_left told f)
+fixed_passes told f o ps size n most is beyond open_still = fixed_over o ps size n most f.stream.at f.ahead (left_of told f.stream) (fixed_is ps 0 size is) beyond open_still.1

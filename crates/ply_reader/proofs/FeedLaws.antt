@@ -189,6 +189,11 @@ pub passed-more : (m n : ℕ) (r : Rest) (fault : MeshFault) → m ≤ n → pas
 unfolding passed
 passed-more m n r fault few fails = grind (arith, nat_tests)
 
+-- past the limit it makes no difference how many bytes are to be passed over
+pub passed-capped : (n most : ℕ) (r : Rest) → most_mesh_bytes < most → passed (min n most) r ≡ passed n r
+unfolding passed
+passed-capped n most r beyond = grind (arith, nat_tests)
+
 -- passing over bytes that are there, and then the others
 abbrev pub chosen : Bool → Bool → ℕ → Rest → Result Rest MeshFault
 chosen over cut end r = if over then Err (TooMany MeshBytes most_mesh_bytes) else if cut then Err (Text end Cut) else Ok r

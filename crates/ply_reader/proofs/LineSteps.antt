@@ -137,7 +137,13 @@ header_on s after h left is = ap (λ o. option_map (over (goes_on o) s) left) is
 ends_over : {A : Type 0} (K : Result A MeshFault → List ℕ → Reading) (defined : Result A MeshFault) (fault : MeshFault) (old : Option Reading) (left : Told) → ((f : MeshFault) → K (Err f) ≡ only_fault f) → old ≡ option_map (K defined) left → defined ≡ Err fault → old ≡ option_map (only_fault fault) left
 ends_over K defined fault old left faults same is = same ∙ ap (λ o. option_map (K o) left) is ∙ ap (λ f. option_map f left) (faults fault)
 
-pub ends_answer : {A : Type 0} (K : Result A MeshFault → List ℕ → Reading) (defined : Result A MeshFault) (fault : MeshFault) (old : Option Reading) (left : Told) → ((f : MeshFault) → K (Err f) ≡ only_fault f) → old ≡ option_map (K defined) left → Answers defined (Err fault) → Ends old fault left
+ends_is : (old : Option Reading) (fault : MeshFault) (left : Told) → old ≡ option_map (only_fault fault) left → Ends old fault left
+ends_is old Read left is = tt
+ends_is old Memory left is = tt
+ends_is old (Text at why) left is = is
+ends_is old (TooMany what count) left is = is
+
+ends_answer : {A : Type 0} (K : Result A MeshFault → List ℕ → Reading) (defined : Result A MeshFault) (fault : MeshFault) (old : Option Reading) (left : Told) → ((f : MeshFault) → K (Err f) ≡ only_fault f) → old ≡ option_map (K defined) left → Answers defined (Err fault) → Ends old fault left
 ends_answer K defined Read old left faults same answers = tt
 ends_answer K defined Memory old left faults same answers = tt
 ends_answer K defined (Text at why) old left faults same answers = ends_over K defined (Text at why) old left faults same answers
@@ -147,9 +153,9 @@ pub after_ends : {S : Type 0} (s : Stream S) (after : Result Header MeshFault) (
 after_ends s after fault old left same answers = ends_answer (λ o. over (goes_on o) s) after fault old left (λ f. refl) same answers
 
 -- the result at the end of the header
-pub layout_ends : {S : Type 0} (s : Stream S) (defined result : Result Layout MeshFault) (old : Option Reading) (left : Told) → old ≡ option_map (over (λ q r. counted defined r) s) left → Answers defined result → IfErr result (λ fault. Ends old fault left)
-layout_ends s defined (Ok l) old left same answers = tt
-layout_ends s defined (Err fault) old left same answers = ends_answer (λ o. over (λ q r. counted o r) s) defined fault old left (λ f. refl) same answers
+pub layout_ends : {S : Type 0} (s : Stream S) (defined result : Result Layout MeshFault) (old : Option Reading) (left : Told) → old ≡ option_map (over (λ q r. counted defined r) s) left → result ≡ defined → IfErr result (λ fault. Ends old fault left)
+layout_ends s defined (Ok l) old left same exact = tt
+layout_ends s defined (Err fault) old left same exact = ends_is old fault left (ends_over (λ o. over (λ q r. counted o r) s) defined fault old left (λ f. refl) same (sym exact))
 
 bare_over : (at at' : ℕ) (ahead : List ℕ) (left : Told) (l : Layout) → at ≡ at' → ahead ≡ [] → option_map (λ bytes. laid l (record { at = at; bytes = bytes })) left ≡ option_map (laid l) (option_map (rest_with (at' - length ahead) ahead) left)
 bare_over at at' ahead None l same bare = refl
@@ -157,10 +163,10 @@ bare_over at at' ahead (Some bytes) l same bare =
     let place : at ≡ at' - length ahead = omega (arith, ap (λ (t : List ℕ). length t) bare) in
     ap (λ p. Some (laid l (record { at = p; bytes = bytes }))) place ∙ ap (λ (t : List ℕ). Some (laid l (record { at = at' - length ahead; bytes = t ++ bytes }))) (sym bare)
 
-pub layout_told : {S : Type 0} (told : S → Told) (f : Feed S) (defined result : Result Layout MeshFault) (old : Option Reading) → f.ahead ≡ [] → old ≡ option_map (over (λ q r. counted defined r) f.stream) (left_of told f.stream) → Answers defined result → IfOk result (λ l. old ≡ option_map (laid l) (rest_left told f))
-layout_told told f defined (Ok l) old bare same answers =
-    same ∙ ap (λ o. option_map (over (λ q r. counted o r) f.stream) (left_of told f.stream)) answers ∙ bare_over f.stream.at f.stream.at f.ahead (left_of told f.stream) l refl bare
-layout_told told f defined (Err fault) old bare same answers = tt
+pub layout_told : {S : Type 0} (told : S → Told) (f : Feed S) (defined result : Result Layout MeshFault) (old : Option Reading) → f.ahead ≡ [] → old ≡ option_map (over (λ q r. counted defined r) f.stream) (left_of told f.stream) → result ≡ defined → IfOk result (λ l. old ≡ option_map (laid l) (rest_left told f))
+layout_told told f defined (Ok l) old bare same exact =
+    same ∙ ap (λ o. option_map (over (λ q r. counted o r) f.stream) (left_of told f.stream)) (sym exact) ∙ bare_over f.stream.at f.stream.at f.ahead (left_of told f.stream) l refl bare
+layout_told told f defined (Err fault) old bare same exact = tt
 
 -- where no line comes
 stops_over : {S : Type 0} (read : Lined → Rest → Reading) (s : Stream S) (fault : MeshFault) (old new : Told) → ((r : Rest) → read (record { lines = []; end = fault }) r ≡ fault_alone fault) → option_map (lined s) old ≡ option_map (only_end fault) new → option_map (over read s) old ≡ option_map (only_fault fault) new

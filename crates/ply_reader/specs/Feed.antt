@@ -66,7 +66,7 @@ Stays defined old (Err fault) new = Fails defined old fault new
 abbrev pub FailsBeyond : ℕ → Option Rest → MeshFault → Option Rest → Type 0
 FailsBeyond have old fault new = (n : ℕ) → have < n → Fails (passed n) old fault new
 
--- how many bytes properties have behind so many, where each of them is a number
+-- how many bytes properties have behind so many, where each of them is a number that isn't looked at
 unfoldable pub fixed_from : ℕ → List Property → Option ℕ
 fixed_from n [] = Some n
 fixed_from n (Single number ∷ ps) = fixed_from (n + size_of number) ps

@@ -1,12 +1,11 @@
 //! The records behind a header.
 
-ghost use Rattle.std.specs.Prelude.{◌≡◌, ◌+◌, ◌≤◌, ◌<◌, Some, IfOk, IfSome, OnOk, IsErrOf};
-ghost use Rattle.fault_counts.specs.Counts.{Rose};
+ghost use Rattle.std.specs.Prelude.{◌≡◌, ◌+◌, ◌≤◌, ◌<◌, None, IfOk, OnOk};
 ghost use Rattle.mesh_data.specs.Reading.{most_items};
+ghost use Rattle.oemm_lines.specs.Stream.{UsesSource};
 ghost use Rattle.mesh_reading.specs.Progress.{MayFollow};
 ghost use Rattle.ply_reader.specs.Body as grammar;
-ghost use Rattle.ply_reader.specs.Feed as feeds;
-ghost use Rattle.ply_reader.specs.Feed.{rest_left, Finds, IsOpen, Passes};
+ghost use Rattle.ply_reader.specs.Feed.{fixed_from, rest_left, Finds, IsOpen, Passes};
 
 use super::feed::Feed;
 use super::record::properties_in;
@@ -16,32 +15,32 @@ use mesh_reading::fault_at;
 use oemm_io::Source;
 use ply_header::{ByteOrder, Element, Layout, Property, size_of};
 
-/// How many bytes the properties have, where each of them is a number.
-fn fixed_size(properties: &[Property]) -> Option<u64>
-    ensures { IfSome result (λ n. feeds.fixed_from 0 properties.now ≡ Some n) }
+/// How many bytes the properties have, where each of them is a number that isn't looked at, and else None.
+fn fixed_size(properties: &[Property]) -> Option<u128>
+    ensures { result ≡ fixed_from 0 properties.now }
 {
-    let mut size: u64 = 0;
+    let mut size: u128 = 0;
     for property in properties {
         let Property::Single(number) = *property else {
             return None;
         };
-        size = size.checked_add(size_of(number) as u64)?;
+        size += size_of(number) as u128;
     }
     Some(size)
 }
 
-/// Passes over a record with these properties.
+/// Passes over a record with these properties, which aren't all of a fixed size.
 #[tactic(auto, unfolding(crate::specs::Body::record_passed))]
 fn record_passed<S: Source>(
     feed: &mut Feed<S>,
     order: ByteOrder,
     properties: &[Property],
 ) -> Result<(), MeshFault>
-    requires { IsOpen feed.old }
+    requires open { IsOpen feed.old }
+    requires size { fixed_from 0 properties.now ≡ None }
     ensures passes { Passes (grammar.record_passed order properties.now) (rest_left S.left feed.old) result (rest_left S.left feed.new) }
     ensures open { OnOk result (IsOpen feed.new) }
-    ensures kept { S.faults feed.old.stream.source ≤ S.faults feed.new.stream.source }
-    ensures read { IsErrOf result MeshFault.Read → Rose (S.faults feed.old.stream.source) (S.faults feed.new.stream.source) }
+    ensures uses { UsesSource S.left S.faults MeshFault.Read feed.old.stream feed.new.stream result }
 {
     let record = Record {
         order,
@@ -53,18 +52,18 @@ fn record_passed<S: Source>(
     Ok(())
 }
 
-/// Passes over so many records with these properties, one by one.
+/// Passes over so many records with these properties, which aren't all of a fixed size, one by one.
 fn each_record_passed<S: Source>(
     feed: &mut Feed<S>,
     order: ByteOrder,
     properties: &[Property],
     count: u64,
 ) -> Result<(), MeshFault>
-    requires { IsOpen feed.old }
+    requires open { IsOpen feed.old }
+    requires size { fixed_from 0 properties.now ≡ None }
     ensures passes { Passes (grammar.records_passed order properties.now count) (rest_left S.left feed.old) result (rest_left S.left feed.new) }
     ensures open { OnOk result (IsOpen feed.new) }
-    ensures kept { S.faults feed.old.stream.source ≤ S.faults feed.new.stream.source }
-    ensures read { IsErrOf result MeshFault.Read → Rose (S.faults feed.old.stream.source) (S.faults feed.new.stream.source) }
+    ensures uses { UsesSource S.left S.faults MeshFault.Read feed.old.stream feed.new.stream result }
 {
     for _ in 0..count {
         record_passed(feed, order, properties)?;
@@ -72,7 +71,7 @@ fn each_record_passed<S: Source>(
     Ok(())
 }
 
-/// Passes over the records of an element.
+/// Passes over the records of an element: at once where they have a fixed size, which may be 0.
 fn records_passed<S: Source>(
     feed: &mut Feed<S>,
     order: ByteOrder,
@@ -81,12 +80,11 @@ fn records_passed<S: Source>(
     requires { IsOpen feed.old }
     ensures passes { Passes (grammar.records_passed order element.now.properties element.now.count) (rest_left S.left feed.old) result (rest_left S.left feed.new) }
     ensures open { OnOk result (IsOpen feed.new) }
-    ensures kept { S.faults feed.old.stream.source ≤ S.faults feed.new.stream.source }
-    ensures read { IsErrOf result MeshFault.Read → Rose (S.faults feed.old.stream.source) (S.faults feed.new.stream.source) }
+    ensures uses { UsesSource S.left S.faults MeshFault.Read feed.old.stream feed.new.stream result }
 {
     let properties = element.properties.slice();
     match fixed_size(properties) {
-        Some(size) => feed.pass(u128::from(element.count) * u128::from(size)),
+        Some(size) => feed.pass(u128::from(element.count).saturating_mul(size)),
         None => each_record_passed(feed, order, properties, element.count),
     }
 }
@@ -100,8 +98,7 @@ fn elements_passed<S: Source>(
     requires { IsOpen feed.old }
     ensures passes { Passes (grammar.elements_passed order elements.now) (rest_left S.left feed.old) result (rest_left S.left feed.new) }
     ensures open { OnOk result (IsOpen feed.new) }
-    ensures kept { S.faults feed.old.stream.source ≤ S.faults feed.new.stream.source }
-    ensures read { IsErrOf result MeshFault.Read → Rose (S.faults feed.old.stream.source) (S.faults feed.new.stream.source) }
+    ensures uses { UsesSource S.left S.faults MeshFault.Read feed.old.stream feed.new.stream result }
 {
     for element in elements {
         records_passed(feed, order, element)?;
@@ -119,8 +116,7 @@ fn passed_if<S: Source>(
     requires { IsOpen feed.old }
     ensures passes { Passes (grammar.passed_if here order elements.now) (rest_left S.left feed.old) result (rest_left S.left feed.new) }
     ensures open { OnOk result (IsOpen feed.new) }
-    ensures kept { S.faults feed.old.stream.source ≤ S.faults feed.new.stream.source }
-    ensures read { IsErrOf result MeshFault.Read → Rose (S.faults feed.old.stream.source) (S.faults feed.new.stream.source) }
+    ensures uses { UsesSource S.left S.faults MeshFault.Read feed.old.stream feed.new.stream result }
 {
     if here {
         return elements_passed(feed, order, elements);
@@ -134,8 +130,7 @@ fn led_to<S: Source>(feed: &mut Feed<S>, layout: &Layout, done: u64) -> Result<(
     requires { IsOpen feed.old }
     ensures passes { Passes (grammar.led_to layout.now done) (rest_left S.left feed.old) result (rest_left S.left feed.new) }
     ensures open { OnOk result (IsOpen feed.new) }
-    ensures kept { S.faults feed.old.stream.source ≤ S.faults feed.new.stream.source }
-    ensures read { IsErrOf result MeshFault.Read → Rose (S.faults feed.old.stream.source) (S.faults feed.new.stream.source) }
+    ensures uses { UsesSource S.left S.faults MeshFault.Read feed.old.stream feed.new.stream result }
 {
     passed_if(feed, done == 0, layout.order, layout.before.slice())?;
     let behind_vertices = done == layout.vertex.count;
@@ -151,8 +146,7 @@ fn vertex_in<S: Source>(feed: &mut Feed<S>, layout: &Layout, number: u64) -> Res
     ensures finds { Finds (grammar.vertex_in layout.now number) (rest_left S.left feed.old) result (rest_left S.left feed.new) }
     ensures may { IfOk result (MayFollow layout.now.vertex.count number) }
     ensures open { OnOk result (IsOpen feed.new) }
-    ensures kept { S.faults feed.old.stream.source ≤ S.faults feed.new.stream.source }
-    ensures read { IsErrOf result MeshFault.Read → Rose (S.faults feed.old.stream.source) (S.faults feed.new.stream.source) }
+    ensures uses { UsesSource S.left S.faults MeshFault.Read feed.old.stream feed.new.stream result }
 {
     let record = Record {
         order: layout.order,
@@ -173,8 +167,7 @@ fn face_in<S: Source>(feed: &mut Feed<S>, layout: &Layout, number: u64) -> Resul
     ensures finds { Finds (grammar.face_in layout.now number) (rest_left S.left feed.old) result (rest_left S.left feed.new) }
     ensures may { IfOk result (MayFollow layout.now.vertex.count (layout.now.vertex.count + number)) }
     ensures open { OnOk result (IsOpen feed.new) }
-    ensures kept { S.faults feed.old.stream.source ≤ S.faults feed.new.stream.source }
-    ensures read { IsErrOf result MeshFault.Read → Rose (S.faults feed.old.stream.source) (S.faults feed.new.stream.source) }
+    ensures uses { UsesSource S.left S.faults MeshFault.Read feed.old.stream feed.new.stream result }
 {
     let at = feed.place();
     let record = Record {
@@ -203,8 +196,7 @@ pub fn item_in<S: Source>(feed: &mut Feed<S>, layout: &Layout, done: u64) -> Res
     ensures finds { Finds (grammar.item_in layout.now done) (rest_left S.left feed.old) result (rest_left S.left feed.new) }
     ensures may { IfOk result (MayFollow layout.now.vertex.count done) }
     ensures open { OnOk result (IsOpen feed.new) }
-    ensures kept { S.faults feed.old.stream.source ≤ S.faults feed.new.stream.source }
-    ensures read { IsErrOf result MeshFault.Read → Rose (S.faults feed.old.stream.source) (S.faults feed.new.stream.source) }
+    ensures uses { UsesSource S.left S.faults MeshFault.Read feed.old.stream feed.new.stream result }
 {
     led_to(feed, layout, done)?;
     if done < layout.vertex.count {

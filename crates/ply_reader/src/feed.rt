@@ -1,9 +1,8 @@
 //! The bytes behind a header.
 
-ghost use Rattle.std.specs.Prelude.{◌≡◌, ◌+◌, ◌-◌, ◌<◌, ◌≤◌, length, take, slice_range, IfErr, IfOk, OnOk, IsErrOf};
-ghost use Rattle.fault_counts.specs.Counts.{Rose};
+ghost use Rattle.std.specs.Prelude.{◌≡◌, ◌+◌, ◌-◌, ◌<◌, ◌≤◌, length, take, slice_range, IfErr, IfOk, OnOk};
 ghost use Rattle.fault_counts.specs.Told.{Takes};
-ghost use Rattle.oemm_lines.specs.Stream.{left_of, IsDrained};
+ghost use Rattle.oemm_lines.specs.Stream.{left_of, IsDrained, UsesSource};
 
 use mesh_data::{MeshFault, MeshWhy};
 use mesh_reading::{MOST_MESH_BYTES, fault_at, fault_of_lines};
@@ -65,8 +64,7 @@ fn raw_into<S: Source>(
     ensures limit { OnOk result (lines.new.at ≤ lines.old.budget) }
     ensures budget { lines.new.budget ≡ lines.old.budget }
     ensures fault { IfErr result (λ fault. fault ≡ LineFault.Read) }
-    ensures kept { S.faults lines.old.source ≤ S.faults lines.new.source }
-    ensures read { IsErrOf result LineFault.Read → Rose (S.faults lines.old.source) (S.faults lines.new.source) }
+    ensures uses { UsesSource S.left S.faults LineFault.Read lines.old lines.new result }
 {
     lines.raw(&mut buffer[at..at + size])
 }
@@ -111,11 +109,10 @@ impl<S> Feed<S> {
 }
 
 impl<S: Source> Feed<S> {
-    ghost use Rattle.std.specs.Prelude.{◌≡◌, ◌+◌, ◌<◌, ◌≤◌, drop, length, IfErr, IfOk, IfSome, OnOk, IsErrOf};
+    ghost use Rattle.std.specs.Prelude.{◌≡◌, ◌+◌, ◌<◌, ◌≤◌, drop, length, IfErr, IfOk, IfSome, OnOk};
     ghost use Rattle.std.specs.Option.{option_map};
-    ghost use Rattle.fault_counts.specs.Counts.{Rose};
     ghost use Rattle.fault_counts.specs.Told.{IsAtEnd};
-    ghost use Rattle.oemm_lines.specs.Stream.{left_of, GivesLine};
+    ghost use Rattle.oemm_lines.specs.Stream.{left_of, GivesLine, UsesSource};
     ghost use Rattle.ply_reader.specs.Reader.{HasLines, StopsLines};
     ghost use Rattle.ply_reader.specs.Body.{forward, passed};
     ghost use Rattle.ply_reader.specs.Feed.{rest_left, FailsBeyond, IsOpen, Passes, Stays};
@@ -130,8 +127,7 @@ impl<S: Source> Feed<S> {
         ensures gives { IfOk result (λ line. GivesLine S.left self.old.stream line self.new.stream) }
         ensures stops { IfErr result (λ fault. StopsLines S.left self.old.stream fault self.new.stream) }
         ensures rises { OnOk result (self.old.stream.at < self.new.stream.at) }
-        ensures kept { S.faults self.old.stream.source ≤ S.faults self.new.stream.source }
-        ensures read { IsErrOf result MeshFault.Read → Rose (S.faults self.old.stream.source) (S.faults self.new.stream.source) }
+        ensures uses { UsesSource S.left S.faults MeshFault.Read self.old.stream self.new.stream result }
     {
         match self.lines.next() {
             Ok(Some(line)) => Ok(line),
@@ -162,8 +158,7 @@ impl<S: Source> Feed<S> {
         ensures end { OnOk result (IsAtEnd (left_of S.left self.new.stream)) }
         ensures open { OnOk result (IsOpen self.new) }
         ensures beyond { IfErr result (λ fault. FailsBeyond (length self.old.ahead) (rest_left S.left self.old) fault (rest_left S.left self.new)) }
-        ensures kept { S.faults self.old.stream.source ≤ S.faults self.new.stream.source }
-        ensures read { IsErrOf result MeshFault.Read → Rose (S.faults self.old.stream.source) (S.faults self.new.stream.source) }
+        ensures uses { UsesSource S.left S.faults MeshFault.Read self.old.stream self.new.stream result }
     {
         if let Err(fault) = self.lines.next() {
             return Err(fault_of_lines(fault));
@@ -184,8 +179,7 @@ impl<S: Source> Feed<S> {
         ensures end { IfOk result (λ n. n ≡ 0 → IsAtEnd (left_of S.left self.new.stream)) }
         ensures open { OnOk result (IsOpen self.new) }
         ensures beyond { IfErr result (λ fault. FailsBeyond (length self.old.ahead) (rest_left S.left self.old) fault (rest_left S.left self.new)) }
-        ensures kept { S.faults self.old.stream.source ≤ S.faults self.new.stream.source }
-        ensures read { IsErrOf result MeshFault.Read → Rose (S.faults self.old.stream.source) (S.faults self.new.stream.source) }
+        ensures uses { UsesSource S.left S.faults MeshFault.Read self.old.stream self.new.stream result }
     {
         let to = moved_to_front(&mut self.buffer, self.from, self.to);
         let room = MOST_MESH_BYTES - self.lines.at();
@@ -216,8 +210,7 @@ impl<S: Source> Feed<S> {
         ensures end { IfOk result (λ n. n ≡ 0 → IsAtEnd (left_of S.left self.new.stream)) }
         ensures open { OnOk result (IsOpen self.new) }
         ensures beyond { IfErr result (λ fault. FailsBeyond (length self.old.ahead) (rest_left S.left self.old) fault (rest_left S.left self.new)) }
-        ensures kept { S.faults self.old.stream.source ≤ S.faults self.new.stream.source }
-        ensures read { IsErrOf result MeshFault.Read → Rose (S.faults self.old.stream.source) (S.faults self.new.stream.source) }
+        ensures uses { UsesSource S.left S.faults MeshFault.Read self.old.stream self.new.stream result }
     {
         if self.lines.at() < MOST_MESH_BYTES {
             return self.take_block();
@@ -244,8 +237,7 @@ impl<S: Source> Feed<S> {
         ensures there { OnOk result (count ≤ length self.new.ahead) }
         ensures rest { Stays (passed count) (rest_left S.left self.old) result (rest_left S.left self.new) }
         ensures open { OnOk result (IsOpen self.new) }
-        ensures kept { S.faults self.old.stream.source ≤ S.faults self.new.stream.source }
-        ensures read { IsErrOf result MeshFault.Read → Rose (S.faults self.old.stream.source) (S.faults self.new.stream.source) }
+        ensures uses { UsesSource S.left S.faults MeshFault.Read self.old.stream self.new.stream result }
     {
         while self.bytes().len() < count {
             let more = self.refill()?;
@@ -264,8 +256,7 @@ impl<S: Source> Feed<S> {
         requires { IsOpen self.old }
         ensures passes { Passes (passed count) (rest_left S.left self.old) result (rest_left S.left self.new) }
         ensures open { OnOk result (IsOpen self.new) }
-        ensures kept { S.faults self.old.stream.source ≤ S.faults self.new.stream.source }
-        ensures read { IsErrOf result MeshFault.Read → Rose (S.faults self.old.stream.source) (S.faults self.new.stream.source) }
+        ensures uses { UsesSource S.left S.faults MeshFault.Read self.old.stream self.new.stream result }
     {
         let mut left = count;
         while left > 0 {

@@ -1,9 +1,8 @@
 //! The vertices and faces, one after another.
 
-ghost use Rattle.std.specs.Prelude.{◌≡◌, ◌+◌, ◌≤◌, ◌<◌, None, Ok, IfErr, IfOk, OnOk, IsErrOf};
+ghost use Rattle.std.specs.Prelude.{◌≡◌, ◌+◌, ◌≤◌, ◌<◌, None, Ok, IfErr, IfOk, OnOk};
 ghost use Rattle.std.specs.Option.{option_map};
-ghost use Rattle.fault_counts.specs.Counts.{Rose};
-ghost use Rattle.oemm_lines.specs.Stream.{left_of};
+ghost use Rattle.oemm_lines.specs.Stream.{left_of, UsesSource};
 ghost use Rattle.ply_header.specs.Limits.{IsLaidOut};
 ghost use Rattle.ply_reader.specs.Feed.{rest_left, IsOpen};
 ghost use Rattle.ply_reader.specs.Reader.{items_left, Ends, GivesNext};
@@ -27,8 +26,7 @@ pub fn item_after<S: Source>(
     ensures next { IfOk result (GivesNext layout.now done (rest_left S.left feed.old) (rest_left S.left feed.new)) }
     ensures end { done ≡ layout.now.vertex.count + layout.now.face.count → (result ≡ Ok None) × (feed.new ≡ feed.old) }
     ensures fault { IfErr result (λ fault. Ends (option_map (items_left layout.now done) (rest_left S.left feed.old)) fault (left_of S.left feed.new.stream)) }
-    ensures kept { S.faults feed.old.stream.source ≤ S.faults feed.new.stream.source }
-    ensures read { IsErrOf result MeshFault.Read → Rose (S.faults feed.old.stream.source) (S.faults feed.new.stream.source) }
+    ensures uses { UsesSource S.left S.faults MeshFault.Read feed.old.stream feed.new.stream result }
 {
     if done == layout.vertex.count + layout.face.count {
         return Ok(None);

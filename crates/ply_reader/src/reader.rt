@@ -34,12 +34,11 @@ impl<S> Model for PlyReader<S> {
 }
 
 impl<S: Source> PlyReader<S> {
-    ghost use Rattle.std.specs.Prelude.{◌≡◌, ◌≤◌, false, None, IsErrOf};
+    ghost use Rattle.std.specs.Prelude.{◌≡◌, false, None};
     ghost use Rattle.std.specs.Option.{option_map};
-    ghost use Rattle.fault_counts.specs.Counts.{Rose};
     ghost use Rattle.mesh_data.specs.Reading.{nothing_given, Steps, Reads};
     ghost use Rattle.mesh_reading.specs.Faults.{most_mesh_bytes};
-    ghost use Rattle.oemm_lines.specs.Stream.{fresh_stream};
+    ghost use Rattle.oemm_lines.specs.Stream.{fresh_stream, UsesSource};
     ghost use Rattle.ply_reader.specs.Mesh.{ply_reading};
     ghost use Rattle.ply_reader.specs.Reader.{given_of, reading_of, source_of};
 
@@ -72,8 +71,7 @@ impl<S: Source> PlyReader<S> {
         requires first { self.old.layout ≡ None }
         ensures given { Steps (given_of self.old) result (given_of self.new) }
         ensures told { Reads (reading_of S.left self.old) result (reading_of S.left self.new) }
-        ensures kept { S.faults (source_of self.old) ≤ S.faults (source_of self.new) }
-        ensures read { IsErrOf result MeshFault.Read → Rose (S.faults (source_of self.old)) (S.faults (source_of self.new)) }
+        ensures uses { UsesSource S.left S.faults MeshFault.Read self.old.feed.stream self.new.feed.stream result }
     {
         match read_header(&mut self.feed) {
             Ok(layout) => {
@@ -91,14 +89,17 @@ impl<S: Source> PlyReader<S> {
 }
 
 impl<S: Source> Items for PlyReader<S> {
-    ghost use Rattle.std.specs.Prelude.{◌≡◌, ◌⊎◌, ◌≤◌, None, Some, Ok, Err, IfSome};
-    ghost use Rattle.fault_counts.specs.Counts.{Rose};
+    ghost use Rattle.std.specs.Prelude.{◌≡◌, None, Ok, Err, IfSome};
+    ghost use Rattle.fault_counts.specs.Counts.{TellsFailure};
+    ghost use Rattle.fault_counts.specs.Told.{TakesSome};
     ghost use Rattle.mesh_data.specs.Reading.{IsComplete, Steps, Reads};
     ghost use Rattle.ply_reader.specs.Reader.{given_of, reading_of, source_of};
 
     ghost given = { λ a. given_of a };
 
     ghost reading = { λ a. reading_of S.left a };
+
+    ghost left = { λ a. S.left (source_of a) };
 
     ghost faults = { λ a. S.faults (source_of a) };
 
@@ -110,10 +111,10 @@ impl<S: Source> Items for PlyReader<S> {
     fn next(&mut self) -> Result<Option<Item>, MeshFault>
         ensures given { Steps (given_of self.old) result (given_of self.new) }
         ensures told { Reads (reading_of S.left self.old) result (reading_of S.left self.new) }
-        ensures kept { S.faults (source_of self.old) ≤ S.faults (source_of self.new) }
-        ensures read { result ≡ Err MeshFault.Read → ((given_of self.old).fault ≡ Some MeshFault.Read) ⊎ Rose (S.faults (source_of self.old)) (S.faults (source_of self.new)) }
-        ensures end { self.old.fault ≡ None → IsComplete (given_of self.old) → (result ≡ Ok None) × (self.new ≡ self.old) }
+        ensures left { TakesSome (S.left (source_of self.old)) (S.left (source_of self.new)) }
+        ensures cause { self.old.fault ≡ None → TellsFailure MeshFault.Read (S.faults (source_of self.old)) (S.faults (source_of self.new)) result }
         ensures again { IfSome self.old.fault (λ fault. (result ≡ Err fault) × (self.new ≡ self.old)) }
+        ensures end { self.old.fault ≡ None → IsComplete (given_of self.old) → (result ≡ Ok None) × (self.new ≡ self.old) }
     {
         if let Some(fault) = self.fault {
             return Err(fault);

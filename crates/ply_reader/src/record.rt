@@ -1,8 +1,8 @@
 //! The properties of a record.
 
-ghost use Rattle.std.specs.Prelude.{◌≡◌, ◌≤◌, ◌<◌, ◌+◌, ◌*◌, drop, length, Some, IfErr, IfOk, IfSome, OnOk, IsErrOf};
-ghost use Rattle.fault_counts.specs.Counts.{Rose};
+ghost use Rattle.std.specs.Prelude.{◌≡◌, ◌≤◌, ◌<◌, ◌+◌, ◌*◌, drop, length, Some, IfErr, IfOk, IfSome, OnOk};
 ghost use Rattle.mesh_data.specs.Triangles.{IsProper, IsBelow};
+ghost use Rattle.oemm_lines.specs.Stream.{UsesSource};
 ghost use Rattle.mesh_reading.specs.Results.{IsOfText};
 ghost use Rattle.ply_header.specs.Layout as layout;
 ghost use Rattle.ply_reader.specs.Body as grammar;
@@ -97,8 +97,7 @@ pub fn number_in<S: Source>(
     requires { IsOpen feed.old }
     ensures finds { Finds (grammar.number_in order number) (rest_left S.left feed.old) result (rest_left S.left feed.new) }
     ensures open { OnOk result (IsOpen feed.new) }
-    ensures kept { S.faults feed.old.stream.source ≤ S.faults feed.new.stream.source }
-    ensures read { IsErrOf result MeshFault.Read → Rose (S.faults feed.old.stream.source) (S.faults feed.new.stream.source) }
+    ensures uses { UsesSource S.left S.faults MeshFault.Read feed.old.stream feed.new.stream result }
 {
     let size = size_of(number);
     feed.need(size)?;
@@ -116,8 +115,7 @@ fn count_in<S: Source>(
     requires { IsOpen feed.old }
     ensures finds { Finds (grammar.count_in here.now count) (rest_left S.left feed.old) result (rest_left S.left feed.new) }
     ensures open { OnOk result (IsOpen feed.new) }
-    ensures kept { S.faults feed.old.stream.source ≤ S.faults feed.new.stream.source }
-    ensures read { IsErrOf result MeshFault.Read → Rose (S.faults feed.old.stream.source) (S.faults feed.new.stream.source) }
+    ensures uses { UsesSource S.left S.faults MeshFault.Read feed.old.stream feed.new.stream result }
 {
     let n = number_in(feed, here.order, count)?;
     list_count(here, n)
@@ -133,8 +131,7 @@ fn list_passed<S: Source>(
     requires { IsOpen feed.old }
     ensures passes { Passes (grammar.list_passed here.now count item) (rest_left S.left feed.old) result (rest_left S.left feed.new) }
     ensures open { OnOk result (IsOpen feed.new) }
-    ensures kept { S.faults feed.old.stream.source ≤ S.faults feed.new.stream.source }
-    ensures read { IsErrOf result MeshFault.Read → Rose (S.faults feed.old.stream.source) (S.faults feed.new.stream.source) }
+    ensures uses { UsesSource S.left S.faults MeshFault.Read feed.old.stream feed.new.stream result }
 {
     let n = count_in(feed, here, count)?;
     feed.pass(u128::from(n) * size_of(item) as u128)
@@ -152,8 +149,7 @@ fn indices_in<S: Source>(
     ensures proper { IfOk result IsProper }
     ensures below { IfOk result (IsBelow here.now.vertices) }
     ensures open { OnOk result (IsOpen feed.new) }
-    ensures kept { S.faults feed.old.stream.source ≤ S.faults feed.new.stream.source }
-    ensures read { IsErrOf result MeshFault.Read → Rose (S.faults feed.old.stream.source) (S.faults feed.new.stream.source) }
+    ensures uses { UsesSource S.left S.faults MeshFault.Read feed.old.stream feed.new.stream result }
 {
     let size = 3 * size_of(item);
     feed.need(size)?;
@@ -175,8 +171,7 @@ fn corners_in<S: Source>(
     ensures proper { IfOk result IsProper }
     ensures below { IfOk result (IsBelow here.now.vertices) }
     ensures open { OnOk result (IsOpen feed.new) }
-    ensures kept { S.faults feed.old.stream.source ≤ S.faults feed.new.stream.source }
-    ensures read { IsErrOf result MeshFault.Read → Rose (S.faults feed.old.stream.source) (S.faults feed.new.stream.source) }
+    ensures uses { UsesSource S.left S.faults MeshFault.Read feed.old.stream feed.new.stream result }
 {
     let n = count_in(feed, here, count)?;
     if n != 3 {
@@ -198,8 +193,7 @@ fn coordinate_in<S: Source>(
     ensures finds { Finds (grammar.coordinate_in here.now axis number values) (rest_left S.left feed.old) result (rest_left S.left feed.new) }
     ensures face { IfOk result (λ v. v.face ≡ values.face) }
     ensures open { OnOk result (IsOpen feed.new) }
-    ensures kept { S.faults feed.old.stream.source ≤ S.faults feed.new.stream.source }
-    ensures read { IsErrOf result MeshFault.Read → Rose (S.faults feed.old.stream.source) (S.faults feed.new.stream.source) }
+    ensures uses { UsesSource S.left S.faults MeshFault.Read feed.old.stream feed.new.stream result }
 {
     let n = number_in(feed, here.order, number)?;
     with_coordinate(here, axis, n, values)
@@ -218,8 +212,7 @@ fn property_in<S: Source>(
     ensures finds { Finds (grammar.property_in here.now property values) (rest_left S.left feed.old) result (rest_left S.left feed.new) }
     ensures face { IfOk result (λ v. IfSome v.face (IsFaceBelow here.now.vertices)) }
     ensures open { OnOk result (IsOpen feed.new) }
-    ensures kept { S.faults feed.old.stream.source ≤ S.faults feed.new.stream.source }
-    ensures read { IsErrOf result MeshFault.Read → Rose (S.faults feed.old.stream.source) (S.faults feed.new.stream.source) }
+    ensures uses { UsesSource S.left S.faults MeshFault.Read feed.old.stream feed.new.stream result }
 {
     match property {
         Property::Coordinate { axis, number } => coordinate_in(feed, here, axis, number, values),
@@ -251,8 +244,7 @@ pub fn properties_in<S: Source>(
     ensures finds { Finds (grammar.properties_in here.now properties.now grammar.no_values) (rest_left S.left feed.old) result (rest_left S.left feed.new) }
     ensures face { IfOk result (λ v. IfSome v.face (IsFaceBelow here.now.vertices)) }
     ensures open { OnOk result (IsOpen feed.new) }
-    ensures kept { S.faults feed.old.stream.source ≤ S.faults feed.new.stream.source }
-    ensures read { IsErrOf result MeshFault.Read → Rose (S.faults feed.old.stream.source) (S.faults feed.new.stream.source) }
+    ensures uses { UsesSource S.left S.faults MeshFault.Read feed.old.stream feed.new.stream result }
 {
     let mut values = no_values();
     for property in properties {

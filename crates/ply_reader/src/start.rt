@@ -1,9 +1,8 @@
 //! The header of a file, line after line.
 
-ghost use Rattle.std.specs.Prelude.{◌≡◌, ◌≤◌, IfErr, IfOk, OnOk, IsErrOf};
+ghost use Rattle.std.specs.Prelude.{◌≡◌, ◌≤◌, IfErr, IfOk, OnOk};
 ghost use Rattle.std.specs.Option.{option_map};
-ghost use Rattle.fault_counts.specs.Counts.{Rose};
-ghost use Rattle.oemm_lines.specs.Stream.{left_of};
+ghost use Rattle.oemm_lines.specs.Stream.{left_of, UsesSource};
 ghost use Rattle.ply_header.specs.Header as grammar;
 ghost use Rattle.ply_header.specs.Limits.{IsLaidOut, IsLimited};
 ghost use Rattle.ply_reader.specs.Mesh as mesh;
@@ -35,8 +34,7 @@ fn first_line<S: Source>(feed: &mut Feed<S>) -> Result<Global, MeshFault>
     ensures told { OnOk result (option_map (first_of feed.old.stream) (left_of S.left feed.old.stream)
         ≡ option_map (header_of grammar.nothing_declared feed.new.stream) (left_of S.left feed.new.stream)) }
     ensures fault { IfErr result (λ fault. Ends (option_map (first_of feed.old.stream) (left_of S.left feed.old.stream)) fault (left_of S.left feed.new.stream)) }
-    ensures kept { S.faults feed.old.stream.source ≤ S.faults feed.new.stream.source }
-    ensures read { IsErrOf result MeshFault.Read → Rose (S.faults feed.old.stream.source) (S.faults feed.new.stream.source) }
+    ensures uses { UsesSource S.left S.faults MeshFault.Read feed.old.stream feed.new.stream result }
 {
     let line = feed.line()?;
     if !is_first(line.words_left()) {
@@ -58,8 +56,7 @@ fn rest_of_header<S: Source>(
     ensures few { IfOk result IsLaidOut }
     ensures told { IfOk result (λ l. option_map (header_of declared feed.old.stream) (left_of S.left feed.old.stream) ≡ option_map (mesh.laid l) (rest_left S.left feed.new)) }
     ensures fault { IfErr result (λ fault. Ends (option_map (header_of declared feed.old.stream) (left_of S.left feed.old.stream)) fault (left_of S.left feed.new.stream)) }
-    ensures kept { S.faults feed.old.stream.source ≤ S.faults feed.new.stream.source }
-    ensures read { IsErrOf result MeshFault.Read → Rose (S.faults feed.old.stream.source) (S.faults feed.new.stream.source) }
+    ensures uses { UsesSource S.left S.faults MeshFault.Read feed.old.stream feed.new.stream result }
 {
     let mut header = declared;
     loop {
@@ -81,8 +78,7 @@ pub fn read_header<S: Source>(feed: &mut Feed<S>) -> Result<Layout, MeshFault>
     ensures few { IfOk result IsLaidOut }
     ensures told { IfOk result (λ l. option_map (first_of feed.old.stream) (left_of S.left feed.old.stream) ≡ option_map (mesh.laid l) (rest_left S.left feed.new)) }
     ensures fault { IfErr result (λ fault. Ends (option_map (first_of feed.old.stream) (left_of S.left feed.old.stream)) fault (left_of S.left feed.new.stream)) }
-    ensures kept { S.faults feed.old.stream.source ≤ S.faults feed.new.stream.source }
-    ensures read { IsErrOf result MeshFault.Read → Rose (S.faults feed.old.stream.source) (S.faults feed.new.stream.source) }
+    ensures uses { UsesSource S.left S.faults MeshFault.Read feed.old.stream feed.new.stream result }
 {
     let alloc = first_line(feed)?;
     rest_of_header(feed, alloc, nothing_declared(alloc))

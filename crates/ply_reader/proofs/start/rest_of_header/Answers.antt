@@ -1,5 +1,10 @@
-use Rattle.std.proofs.Common.{◌∙◌, sym, arith}
+use Rattle.std.proofs.Common.{rules, ◌∙◌, sym, arith}
+use Rattle.fault_counts.proofs.InRow.{takes_some_more}
+use Rattle.mesh_reading.proofs.Failures.{none_failed, uses_behind}
 use Rattle.ply_reader.proofs.LineSteps.{header_next, header_ends, header_on, header_cut, after_ends, layout_ends, layout_told, ends_same, ends_failed}
+use Rattle.std.proofs.lemmas.Grind.{common_steps}
+use Rattle.mesh_data.specs.declared.items.MeshFault.TheVariants.{Read}
+use Rattle.oemm_lines.specs.Stream.{UsesSource}
 use Rattle.ply_reader.proofs.start.rest_of_header.Goals as goal
 
 pub returns-in_err-line-clause-fault : goal.returns-in_err-line-clause-fault
@@ -10,18 +15,18 @@ returns-in_err-line-clause-fault g c =
 pub returns-then-ends-clause-told : goal.returns-then-ends-clause-told
 returns-then-ends-clause-told g c =
     let is = rw c.words_left.ensures at (sym c.ends.ensures ∙ c.if-ends.true) in
-    let answers = rw c.words_left-then-ends.ensures at c.layout_of.ensures.answers in
+    let exact = rw c.words_left-then-ends.ensures at c.layout_of.ensures.exact in
     layout_told g.S.Source.left c.line.new.self _ c.layout_of.result _ c.in_ok-line.ensures.lines.1
     (sym c.loop-header.invariant.same ∙ header_ends g.S.Source.left c.loop-header.feed.stream c.loop-header.header c.in_ok-line.line c.line.new.self.stream c.in_ok-line.ensures.gives is)
-    answers
+    exact
 
 pub returns-then-ends-clause-fault : goal.returns-then-ends-clause-fault
 returns-then-ends-clause-fault g c =
     let is = rw c.words_left.ensures at (sym c.ends.ensures ∙ c.if-ends.true) in
-    let answers = rw c.words_left-then-ends.ensures at c.layout_of.ensures.answers in
+    let exact = rw c.words_left-then-ends.ensures at c.layout_of.ensures.exact in
     layout_ends c.line.new.self.stream _ c.layout_of.result _ _
     (sym c.loop-header.invariant.same ∙ header_ends g.S.Source.left c.loop-header.feed.stream c.loop-header.header c.in_ok-line.line c.line.new.self.stream c.in_ok-line.ensures.gives is)
-    answers
+    exact
 
 pub returns-in_err-header-clause-fault : goal.returns-in_err-header-clause-fault
 returns-in_err-header-clause-fault g c =
@@ -42,5 +47,21 @@ loop-header-preserved g c =
           ∙ c.loop-header.invariant.same;
       lines = c.in_ok-line.ensures.lines;
       few = c.in_ok-header.ensures.few;
-      kept = omega (arith, c.loop-header.invariant.kept, c.in_ok-line.ensures.kept);
+      source = takes_some_more _ _ _ c.loop-header.invariant.source c.in_ok-line.ensures.uses.source;
+      calm = none_failed _ _ _ _ c.in_ok-line.ensures.uses.cause ∙ c.loop-header.invariant.calm;
     }
+
+pub returns-in_err-line-clause-uses : goal.returns-in_err-line-clause-uses
+returns-in_err-line-clause-uses g c =
+    let uses : UsesSource g.S.Source.left g.S.Source.faults Read c.loop-header.feed.stream c.line.new.self.stream c.from_residual.result = search rules in
+    uses_behind _ _ _ _ _ _ _ c.loop-header.invariant.source c.loop-header.invariant.calm uses
+
+pub returns-then-ends-clause-uses : goal.returns-then-ends-clause-uses
+returns-then-ends-clause-uses g c =
+    let uses : UsesSource g.S.Source.left g.S.Source.faults Read c.loop-header.feed.stream c.line.new.self.stream c.layout_of.result = first_of (search rules, grind (arith, common_steps)) in
+    uses_behind _ _ _ _ _ _ _ c.loop-header.invariant.source c.loop-header.invariant.calm uses
+
+pub returns-in_err-header-clause-uses : goal.returns-in_err-header-clause-uses
+returns-in_err-header-clause-uses g c =
+    let uses : UsesSource g.S.Source.left g.S.Source.faults Read c.loop-header.feed.stream c.line.new.self.stream c.from_residual-in_err-header.result = first_of (search rules, grind (arith, common_steps)) in
+    uses_behind _ _ _ _ _ _ _ c.loop-header.invariant.source c.loop-header.invariant.calm uses

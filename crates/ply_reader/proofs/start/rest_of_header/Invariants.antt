@@ -1,5 +1,6 @@
-use Rattle.std.proofs.Common.{◌≡◌, ◌≤◌, ◌-◌}
+use Rattle.std.proofs.Common.{◌≡◌, ◌-◌}
 use Rattle.std.specs.Option.{option_map}
+use Rattle.fault_counts.specs.Told.{TakesSome}
 use Rattle.oemm_lines.specs.Stream.{left_of}
 use Rattle.ply_header.specs.Limits.{IsLimited}
 use Rattle.ply_reader.specs.Reader.{header_of, HasLines}
@@ -10,7 +11,8 @@ invariant-loop-header g l = record {
   same : option_map (header_of l.header l.feed.stream) (left_of g.S.Source.left l.feed.stream) ≡ option_map (header_of l.initial.header l.initial.feed.stream) (left_of g.S.Source.left l.initial.feed.stream);
   lines : HasLines l.feed;
   few : IsLimited l.header;
-  kept : g.S.Source.faults l.initial.feed.stream.source ≤ g.S.Source.faults l.feed.stream.source;
+  source : TakesSome (g.S.Source.left l.initial.feed.stream.source) (g.S.Source.left l.feed.stream.source);
+  calm : g.S.Source.faults l.feed.stream.source ≡ g.S.Source.faults l.initial.feed.stream.source;
 }
 
 abbrev pub decreases-loop-header : goal.decreases-loop-header

@@ -1,4 +1,5 @@
-use Rattle.std.proofs.Common.{◌≡◌, ◌≤◌, ◌-◌, length}
+use Rattle.std.proofs.Common.{◌≡◌, ◌-◌, length}
+use Rattle.fault_counts.specs.Told.{TakesSome}
 use Rattle.ply_reader.specs.Feed.{rest_left, IsOpen}
 use Rattle.ply_reader.proofs.feed.Feed.need.Given as goal
 
@@ -6,7 +7,8 @@ abbrev pub invariant-loop-self : goal.invariant-loop-self
 invariant-loop-self g l = record {
   same : rest_left g.S.Source.left l.self ≡ rest_left g.S.Source.left l.initial.self;
   open_still : IsOpen l.self;
-  kept : g.S.Source.faults l.initial.self.stream.source ≤ g.S.Source.faults l.self.stream.source;
+  source : TakesSome (g.S.Source.left l.initial.self.stream.source) (g.S.Source.left l.self.stream.source);
+  calm : g.S.Source.faults l.self.stream.source ≡ g.S.Source.faults l.initial.self.stream.source;
 }
 
 abbrev pub decreases-loop-self : goal.decreases-loop-self

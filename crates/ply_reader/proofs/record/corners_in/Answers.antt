@@ -1,0 +1,5 @@
+use Rattle.mesh_reading.proofs.Failures.{uses_more}
+use Rattle.ply_reader.proofs.record.corners_in.Goals as goal
+
+pub returns-clause-uses : goal.returns-clause-uses
+returns-clause-uses g c = uses_more _ _ _ _ _ _ _ _ c.in_ok-n.ensures.uses c.indices_in.ensures.uses
