@@ -3,7 +3,7 @@ use Rattle.std.proofs.Common.{◌≡◌, ℕ, ◌+◌, List, [], ◌++◌, lengt
 use Rattle.std.proofs.lemmas.List.{take-append-drop, take-append-le}
 use Rattle.std.proofs.Math.Seq.{take-append-add, take-append_seam}
 use Rattle.fault_counts.specs.Told.{Told, Puts, PutsFront}
-use Rattle.oemm_io.proofs.Told.{puts_none, puts_more}
+use Rattle.fault_counts.proofs.InRow.{puts_none, puts_more}
 use Rattle.mesh_out.specs.Stream.{PutsBefore}
 
 -- nothing was put

@@ -2,7 +2,7 @@
 
 ghost use Rattle.std.specs.Prelude.{◌≡◌, ◌<◌, ◌≤◌, ◌+◌, ◌-◌, ◌^◌, ◌++◌, length, true, OnOk, OnErr, IsErrOf};
 ghost use Rattle.std.specs.List.{All, flat_map};
-ghost use Rattle.fault_counts.specs.Counts.{HasCause, Rose};
+ghost use Rattle.fault_counts.specs.Counts.{HasCause, TellsFailure};
 ghost use Rattle.fault_counts.specs.Told.{Puts, PutsFront};
 ghost use Rattle.oemm_io.specs.Whole.{StaysOpen};
 ghost use Rattle.mesh_data.specs.Triangles.{IsBelow};
@@ -109,9 +109,8 @@ pub fn write_mesh<O: Sink>(
     ensures finished { OnOk result.1 (O.finished result.0 ≡ true) }
     ensures open { OnErr result.1 (StaysOpen (O.finished sink) (O.finished result.0)) }
     ensures front { PutsFront (O.held sink) (O.held result.0) (form_text form points.now faces.now) }
-    ensures write { IsErrOf result.1 OutFault.Write → Rose (O.faults sink) (O.faults result.0) }
     ensures memory { IsErrOf result.1 OutFault.Memory → result.0 ≡ sink }
-    ensures kept { O.faults sink ≤ O.faults result.0 }
+    ensures cause { TellsFailure OutFault.Write (O.faults sink) (O.faults result.0) result.1 }
 {
     match MeshOut::new(alloc, sink, form, points.len() as u32, faces.len() as u32) {
         Ok(out) => {

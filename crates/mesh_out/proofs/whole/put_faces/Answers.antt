@@ -1,4 +1,4 @@
-use Rattle.std.proofs.Common.{ap, ◌∙◌, arith}
+use Rattle.std.proofs.Common.{ap, ◌∙◌}
 use Rattle.mesh_data.specs.declared.geometry.Tri.{Tri}
 use Rattle.mesh_out.specs.Form.{form_face}
 use Rattle.mesh_out.specs.Stream.{Plan}
@@ -21,7 +21,7 @@ loop-t-preserved g c = record {
       c.loop-t.invariant.puts
       c.in_ok-put_face.ensures.ok;
   open_still = λ was. c.in_ok-put_face.ensures.open (c.loop-t.invariant.open_still was);
-  kept = omega (arith, c.loop-t.invariant.kept, c.in_ok-put_face.ensures.cause.kept);
+  calm = c.in_ok-put_face.ensures.cause.calm ∙ c.loop-t.invariant.calm;
 }
 
 pub returns-in_err-put_face-clause-err : goal.returns-in_err-put_face-clause-err

@@ -1,4 +1,4 @@
-use Rattle.std.proofs.Common.{ap, arith, get_or, pos}
+use Rattle.std.proofs.Common.{ap, ◌∙◌, get_or, pos}
 use Rattle.mesh_out.specs.Form.{form_vertex}
 use Rattle.mesh_out.specs.Stream.{Plan}
 use Rattle.mesh_out.proofs.Items.{puts_item, puts_front_of_items, on_any_error, next_vertex}
@@ -20,7 +20,7 @@ loop-p-preserved g c = record {
       c.loop-p.invariant.puts
       c.in_ok-vertex.ensures.ok;
   open_still = λ was. c.in_ok-vertex.ensures.open (c.loop-p.invariant.open_still was);
-  kept = omega (arith, c.loop-p.invariant.kept, c.in_ok-vertex.ensures.cause.kept);
+  calm = c.in_ok-vertex.ensures.cause.calm ∙ c.loop-p.invariant.calm;
 }
 
 pub returns-in_err-vertex-clause-err : goal.returns-in_err-vertex-clause-err
