@@ -7,6 +7,9 @@ pub mod Manifold
 pub mod Links
 pub mod Edits
 pub mod Work
+pub mod Seen
+pub mod Keeps
+pub mod RingChanges
 pub mod Reading
 pub mod Texts
 pub mod Planes

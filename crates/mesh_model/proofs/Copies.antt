@@ -1,5 +1,5 @@
 -- Ordered maps that are copied an entry at a time.
-use Rattle.std.proofs.Common.{◌≡◌, ℕ, Bool, false, cond, List, [], ◌∷◌, ◌++◌, map, ap, ◌∙◌, sym, refl, Some, None}
+use Rattle.std.proofs.Common.{◌≡◌, ℕ, Bool, false, cond, [], ◌∷◌, ◌++◌, ap, ◌∙◌, sym, refl, Some, None}
 use Rattle.std.proofs.lemmas.Map.Keys.{sorted_head, sorted_tail}
 use Rattle.std.specs.Cmp.{nat_cmp_total, eq_by_cmp_equiv}
 use Rattle.std.specs.FinMap as finite
@@ -11,7 +11,7 @@ use Rattle.std.specs.Map.{keys_of}
 use Rattle.std.specs.Ordering.{nat_cmp, is_eq, eq_by_cmp}
 use Rattle.std.specs.declared.cmp.Ordering.TheVariants.{Less}
 use Rattle.mesh_data.specs.declared.geometry.Vertex.{Vertex}
-use Rattle.mesh_model.proofs.Vertices.{Entries}
+use Rattle.edit_steps.proofs.Vertices.{Entries}
 
 all_at : (P : ℕ → Type 0) (es : Entries) (k : ℕ) (x : Vertex) (rest : Entries) → AllByRecursion P (keys_of (es ++ (k, x) ∷ rest)) → P k
 all_at P [] k x rest all = all.0
@@ -28,11 +28,3 @@ absent_before (e ∷ es) k x rest up =
 -- one entry more
 pub copied_on : (es : Entries) (k : ℕ) (x : Vertex) (rest : Entries) → IsStrictlySortedBy nat_cmp (keys_of (es ++ (k, x) ∷ rest)) → finite.insert (finite.from_entries {R = nat_cmp} es) k x ≡ finite.from_entries (es ++ (k, x) ∷ [])
 copied_on es k x rest up = sym (finite.from_entries_push nat_cmp_total nat_cmp-IsAntisymmetric es k x (absent_before es k x rest up))
-
-pub map-push : {A B : Type 0} (f : A → B) (xs : List A) (x : A) → map f (xs ++ x ∷ []) ≡ map f xs ++ f x ∷ []
-map-push f [] x = refl
-map-push f (y ∷ ys) x = ap (λ zs. f y ∷ zs) (map-push f ys x)
-
-pub append-push : {A : Type 0} (xs : List A) (x : A) (ys : List A) → (xs ++ x ∷ []) ++ ys ≡ xs ++ x ∷ ys
-append-push [] x ys = refl
-append-push (z ∷ zs) x ys = ap (λ rest. z ∷ rest) (append-push zs x ys)

@@ -8,7 +8,7 @@ use Rattle.mesh_data.specs.declared.geometry.Tri.{Tri}
 use Rattle.mesh_data.specs.declared.planes.Plane.{Plane}
 use Rattle.mesh_data.specs.Mesh.{plane_at, planes_at}
 use Rattle.mesh_data.specs.Triangles.{IsProper, IsBelow, has_corner, star}
-use Rattle.mesh_model.specs.Totals.{is_bounded, large_of}
+use Rattle.mesh_model.specs.PlaneCounts.{is_bounded, large_of}
 use Rattle.mesh_model.proofs.Stocks.{none_large-push}
 
 -- a plane more in the list of the place i

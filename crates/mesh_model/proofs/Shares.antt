@@ -13,10 +13,11 @@ use Rattle.mesh_data.specs.declared.planes.Plane.{Plane}
 use Rattle.mesh_data.specs.Mesh.{named_from, planes_at}
 use Rattle.mesh_data.specs.Planes.{most_planes}
 use Rattle.mesh_model.specs.Taken.{planes_in, taken_over}
-use Rattle.mesh_model.specs.Totals.{HasPlanes, total_in, plane_count, large_count, large_of, is_bounded}
+use Rattle.edit_steps.specs.Totals.{total_in}
+use Rattle.mesh_model.specs.PlaneCounts.{HasPlanes, plane_count, large_count, large_of, is_bounded}
 use Rattle.mesh_model.proofs.Stocks.{total-named, three_for_each, none_large}
-use Rattle.mesh_model.proofs.Totals.{at, total-at, total-two, total-changed, total-taken_over}
-use Rattle.mesh_model.proofs.Vertices.{changed, contains-changed, len-changed}
+use Rattle.edit_steps.proofs.Totals.{at, total-at, total-two, total-changed, total-taken_over}
+use Rattle.edit_steps.proofs.Vertices.{changed, contains-changed, len-changed}
 
 pub counted_at : (m : finite.FinMap nat_cmp Vertex) (v : ℕ) → at plane_count (finite.get m v) ≡ length (planes_in m v)
 counted_at m v = elim (finite.get m v) as (λ o. at plane_count o ≡ length (option_map_or (λ ls. ls) (option_map (λ (x : Vertex). x.planes) o) [])) [ None ↦ refl | Some x ↦ refl ]

@@ -14,7 +14,7 @@ use Rattle.mesh_data.specs.Ascending.{placed, in_order}
 use Rattle.mesh_data.specs.Manifold.{IsTriangleOf}
 use Rattle.mesh_data.specs.Mesh.{named_from}
 use Rattle.mesh_data.specs.Triangles.{IsProper, IsBelow, turned, tri_cmp}
-use Rattle.mesh_model.proofs.Vertices.{contains-vertices_from}
+use Rattle.edit_steps.proofs.Vertices.{contains-vertices_from}
 
 -- what holds of a triangle however it is turned holds of the turned one
 turned_keeps : (P : Tri → Type 0) → ((t : Tri) → P t → P (record { a = t.b; b = t.c; c = t.a })) → (t : Tri) → P t → P (turned t)

@@ -11,9 +11,10 @@ use Rattle.mesh_data.specs.declared.geometry.Vertex.{Vertex}
 use Rattle.mesh_data.specs.declared.planes.Plane.{Plane}
 use Rattle.mesh_data.specs.Mesh.{named_from, planes_at, plane_at}
 use Rattle.mesh_data.specs.Triangles.{has_corner, star}
-use Rattle.mesh_model.specs.Totals.{total, total_in, plane_count, large_of, large_count, is_bounded}
-use Rattle.mesh_model.proofs.Totals.{at, total-insert, total-empty}
-use Rattle.mesh_model.proofs.Vertices.{find-named_from}
+use Rattle.edit_steps.specs.Totals.{total, total_in}
+use Rattle.mesh_model.specs.PlaneCounts.{plane_count, large_of, large_count, is_bounded}
+use Rattle.edit_steps.proofs.Totals.{at, total-insert, total-empty}
+use Rattle.edit_steps.proofs.Vertices.{find-named_from}
 
 -- vertices with different names add up
 pub total-named : (f : Vertex → ℕ) (planes : ℕ → List Plane) (n : ℕ) (ps : List Point) → total f (finite.from_entries {R = nat_cmp} (named_from planes n ps)) ≡ total_in f (named_from planes n ps)

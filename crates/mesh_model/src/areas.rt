@@ -2,7 +2,7 @@
 
 ghost use Rattle.std.specs.Prelude.{◌≡◌, ◌<◌, ◌^◌, [], ◌∷◌, ◌++◌, length, slice_get, IfOk, OnOk};
 ghost use Rattle.mesh_data.specs.Ascending.{IsAboveLast};
-ghost use Rattle.mesh_data.specs.Octree.{AreCells, AreLeaves, core_of, area_of, is_inside};
+ghost use Rattle.mesh_data.specs.Octree.{AreCells, AreLeaves, IsAtMost, core_of, area_of, is_inside};
 
 use mesh_data::{Cell, Cells, LeafNo, LeafSet, Point};
 use std::alloc::{AllocError, Global};
@@ -56,7 +56,8 @@ impl Area {
     }
 }
 
-/// The leaves whose cells have a point of the closed box, ascending.
+/// The leaves whose cells have a point of the closed box, ascending. No coordinate of the low corner is above that of the
+/// high one.
 ///
 /// # Errors
 /// Want of memory.
@@ -68,6 +69,7 @@ pub fn core_leaves(
 ) -> Result<LeafSet, AllocError>
     requires octree { AreCells cells.now }
     requires few { length cells.now < 2 ^ 32 }
+    requires corners { IsAtMost low.now high.now }
     ensures core { IfOk result (λ core. core ≡ core_of cells.now low.now high.now) }
     ensures leaves { IfOk result (λ core. AreLeaves (length cells.now) core) }
 {

@@ -1,12 +1,17 @@
 //! Edits and tasks on the whole mesh.
 
-ghost use Rattle.std.specs.Prelude.{◌≡◌, ◌≢◌, ◌<◌, ◌^◌, ℕ, length, true, Some, IfOk, OnOk, OnErr};
+ghost use Rattle.std.specs.Prelude.{◌≡◌, ◌≢◌, ◌<◌, ◌^◌, ℕ, length, true, Some, None, IfOk, OnOk, OnErr};
 ghost use Rattle.std.specs.FinMap as finite;
-ghost use Rattle.mesh_data.specs.Edits.{moved, collapsed, flipped, verdict, after};
+ghost use Rattle.mesh_data.specs.Edits.{moved, collapsed, flipped, pair_lines, verdict, after};
+ghost use Rattle.mesh_data.specs.Keeps.{Keeps};
 ghost use Rattle.mesh_data.specs.Links.{opposites};
-ghost use Rattle.mesh_data.specs.Octree.{AreCells, is_inside};
+ghost use Rattle.mesh_data.specs.Manifold.{IsManifold};
+ghost use Rattle.mesh_data.specs.Octree.{AreCells, IsAtMost, is_inside};
 ghost use Rattle.mesh_data.specs.declared.edits.Edit.TheVariants.{Move, Collapse, Flip};
+ghost use Rattle.mesh_data.specs.declared.edits.Reply.TheVariants.{Done};
 ghost use Rattle.mesh_data.specs.Work.{work, do_task, wide_entry};
+ghost use Rattle.edit_steps.specs.Lines.{refusal};
+ghost use Rattle.mesh_model.specs.Memory.{CanWantMemory};
 
 use crate::areas::{Area, core_leaves};
 use crate::plain_mesh::PlainMesh;
@@ -35,18 +40,34 @@ impl PlainMesh {
     /// simplification is answered `Simplified`, also where it makes no collapse: it tells the collapses that it made, in
     /// their order, and how many triangles with all three vertices held are left.
     ///
+    /// An oriented 2-manifold stays one with its Euler characteristic and its border, whatever the answer.
+    ///
     /// A move takes time of about F for F triangles, and a collapse and a flip of about F log F. A simplification scans
     /// the sides of all triangles for each of its steps, so its time grows with the steps times the triangles. In a scan
     /// each collapse that is less than the best one so far is tried in full, which takes F log F again.
     ///
     /// # Errors
     ///
-    /// `AllocError` for want of memory; then the mesh is unchanged. A simplification is made on a copy of the mesh.
+    /// `AllocError` for want of memory; then the mesh is unchanged. A move wants none, a collapse only where its two names
+    /// are free and neighbours, and a flip only where it is made. A simplification is made on a copy of the mesh.
     pub fn do_edit(&mut self, alloc: Global, area: &Area, edit: &Edit) -> Result<Reply, AllocError>
         ensures reply { IfOk result (λ r. r ≡ verdict (is_inside area.now) self.old edit.now) }
         ensures mesh { OnOk result (self.new
             ≡ after self.old edit.now (verdict (is_inside area.now) self.old edit.now)) }
         ensures err { OnErr result (self.new ≡ self.old) }
+        ensures memory { OnErr result (CanWantMemory (is_inside area.now) self.old edit.now) }
+        ensures keeps { IsManifold self.old → Keeps self.old self.new }
+    {
+        self.make_edit(alloc, area, edit)
+    }
+
+    /// Answers one edit, and makes it where it is done. For want of memory the mesh is unchanged.
+    fn make_edit(&mut self, alloc: Global, area: &Area, edit: &Edit) -> Result<Reply, AllocError>
+        ensures reply { IfOk result (λ r. r ≡ verdict (is_inside area.now) self.old edit.now) }
+        ensures mesh { OnOk result (self.new
+            ≡ after self.old edit.now (verdict (is_inside area.now) self.old edit.now)) }
+        ensures err { OnErr result (self.new ≡ self.old) }
+        ensures memory { OnErr result (CanWantMemory (is_inside area.now) self.old edit.now) }
     {
         match edit {
             Edit::Move { v, to } => Ok(self.do_move(area, *v, *to)),
@@ -57,7 +78,8 @@ impl PlainMesh {
     }
 
     /// Does the task's edits in order on the core of its box, as `do_edit` does each. A task whose core has more than
-    /// `limit` leaves is wide and changes nothing.
+    /// `limit` leaves is wide and changes nothing. An oriented 2-manifold stays one with its Euler characteristic and its
+    /// border.
     ///
     /// # Errors
     ///
@@ -71,6 +93,26 @@ impl PlainMesh {
     ) -> Result<Entry, AllocError>
         requires octree { AreCells cells.now }
         requires few { length cells.now < 2 ^ 32 }
+        requires corners { IsAtMost task.now.low task.now.high }
+        ensures entry { IfOk result (λ e. e ≡ (do_task cells.now limit self.old task.now).entry) }
+        ensures mesh { OnOk result (self.new ≡ (do_task cells.now limit self.old task.now).mesh) }
+        ensures err { OnErr result (self.new ≡ self.old) }
+        ensures keeps { IsManifold self.old → Keeps self.old self.new }
+    {
+        self.make_task(alloc, cells, limit, task)
+    }
+
+    /// Does the task's edits in order on the core of its box. For want of memory the mesh is unchanged.
+    fn make_task(
+        &mut self,
+        alloc: Global,
+        cells: &Cells,
+        limit: u32,
+        task: &Task,
+    ) -> Result<Entry, AllocError>
+        requires octree { AreCells cells.now }
+        requires few { length cells.now < 2 ^ 32 }
+        requires corners { IsAtMost task.now.low task.now.high }
         ensures entry { IfOk result (λ e. e ≡ (do_task cells.now limit self.old task.now).entry) }
         ensures mesh { OnOk result (self.new ≡ (do_task cells.now limit self.old task.now).mesh) }
         ensures err { OnErr result (self.new ≡ self.old) }
@@ -120,7 +162,7 @@ impl PlainMesh {
         Ok(List::from_vec(replies))
     }
 
-    /// Does as `do_edit`, without a copy of the mesh. For want of memory a simplification may be made in part.
+    /// Does as `make_edit`, without a copy of the mesh. For want of memory a simplification may be made in part.
     fn do_in_place(&mut self, alloc: Global, area: &Area, edit: &Edit) -> Result<Reply, AllocError>
         ensures reply { IfOk result (λ r. r ≡ verdict (is_inside area.now) self.old edit.now) }
         ensures mesh { OnOk result (self.new
@@ -128,7 +170,7 @@ impl PlainMesh {
     {
         match edit {
             Edit::Simplify { max, target } => self.simplify(alloc, area, *max, *target),
-            _ => self.do_edit(alloc, area, edit),
+            _ => self.make_edit(alloc, area, edit),
         }
     }
 
@@ -156,6 +198,7 @@ impl PlainMesh {
         ensures reply { IfOk result (λ r. r ≡ verdict (is_inside area.now) self.old (Collapse u v max)) }
         ensures mesh { IfOk result (λ r. self.new ≡ after self.old (Collapse u v max) r) }
         ensures err { OnErr result (self.new ≡ self.old) }
+        ensures memory { OnErr result (refusal (pair_lines (is_inside area.now) self.old u v) ≡ None) }
     {
         let reply = self.collapse_reply(alloc, area, u, v, max)?;
         if let Reply::DoneAt(_) = reply {
@@ -169,6 +212,7 @@ impl PlainMesh {
         ensures reply { IfOk result (λ r. r ≡ verdict (is_inside area.now) self.old (Flip a b)) }
         ensures mesh { IfOk result (λ r. self.new ≡ after self.old (Flip a b) r) }
         ensures err { OnErr result (self.new ≡ self.old) }
+        ensures memory { OnErr result (verdict (is_inside area.now) self.old (Flip a b) ≡ Done) }
     {
         let reply = self.flip_reply(area, a, b);
         if let Reply::Done = reply {

@@ -4,7 +4,7 @@
 mod areas;
 mod costs;
 mod effects;
-mod laws;
+pub mod laws;
 mod plain_mesh;
 mod plane_lists;
 mod simplify;
@@ -12,7 +12,6 @@ mod verdicts;
 mod vertex_map;
 
 pub use areas::{Area, core_leaves};
-pub use laws::{audit_laws, euler_laws, fold_laws, simplify_laws, start_laws};
 pub use mesh_data::{
     Audit, Bytes, Cell, Cells, CommandWord, CommandWords, Copied, Edge, Edges, Edit, Edits,
     ElementKind, Entries, Entry, Item, Items, Lane, LeafNo, LeafSet, List, MeshFault, MeshWhy,

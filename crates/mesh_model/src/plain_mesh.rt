@@ -30,7 +30,7 @@ impl Model for PlainMesh {
     ghost use Rattle.mesh_data.specs.Manifold.{IsTriangleOf};
     ghost use Rattle.mesh_data.specs.Mesh.{Mesh, mesh_code};
     ghost use Rattle.mesh_data.specs.Triangles.{tri_cmp};
-    ghost use Rattle.mesh_model.specs.Totals.{HasPlanes};
+    ghost use Rattle.mesh_model.specs.PlaneCounts.{HasPlanes};
 
     ghost Value = { Mesh };
 
@@ -79,7 +79,7 @@ impl PlainMesh {
     ///
     /// # Errors
     /// Want of memory.
-    #[tactic(auto, using(crate::proofs::Vertices::few_names))]
+    #[tactic(auto, using(edit_steps::proofs::Vertices::few_names))]
     pub fn names(&self, alloc: Global) -> Result<NameSet, AllocError>
         ensures names { IfOk result (λ names. names ≡ names_of self.now) }
         ensures few { IfOk result (λ names. length names ≤ 16777216) }
@@ -91,7 +91,7 @@ impl PlainMesh {
     ///
     /// # Errors
     /// Want of memory.
-    #[tactic(auto, using(crate::proofs::Vertices::few_points))]
+    #[tactic(auto, using(edit_steps::proofs::Vertices::few_points))]
     pub fn points(&self, alloc: Global) -> Result<Points, AllocError>
         ensures points { IfOk result (λ points. points ≡ points_of self.now) }
         ensures few { IfOk result (λ points. length points ≤ 16777216) }

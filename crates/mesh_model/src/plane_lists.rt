@@ -4,7 +4,7 @@ ghost use Rattle.std.specs.Prelude.{◌≡◌, ℕ, ◌<◌, [], ◌∷◌, ◌+
 ghost use Rattle.std.specs.List.{count_by};
 ghost use Rattle.mesh_data.specs.Mesh.{plane_at, planes_at};
 ghost use Rattle.mesh_data.specs.Triangles.{IsProper, IsBelow};
-ghost use Rattle.mesh_model.specs.Totals.{is_bounded};
+ghost use Rattle.mesh_model.specs.PlaneCounts.{is_bounded};
 
 use mesh_data::{List, Name, Plane, Planes, Point, Tri};
 use oemm_plane::plane_of;

@@ -8,7 +8,7 @@ ghost use Rattle.mesh_data.specs.Edits.{is_held, cost, collapse_verdict, done_st
 ghost use Rattle.mesh_data.specs.Octree.{is_inside};
 ghost use Rattle.mesh_data.specs.Triangles.{corners};
 ghost use Rattle.mesh_data.specs.declared.edits.Edit.TheVariants.{Simplify};
-ghost use Rattle.mesh_model.specs.Steps.{lesser, both_ways, best_of, answer_of};
+ghost use Rattle.edit_steps.specs.Steps.{lesser, both_ways, best_of, answer_of};
 
 use crate::areas::Area;
 use crate::plain_mesh::PlainMesh;

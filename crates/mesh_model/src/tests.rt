@@ -67,7 +67,10 @@ fn octree(alloc: Global, depth: u8, xs: &[u8]) -> Result<Cells, AllocError>
     Ok(List::from_vec(cells))
 }
 
-fn task_on(alloc: Global, low: Point, high: Point, edits: &[Edit]) -> Result<Task, AllocError> {
+fn task_on(alloc: Global, low: Point, high: Point, edits: &[Edit]) -> Result<Task, AllocError>
+    ensures low { IfOk result (λ task. task.low ≡ low) }
+    ensures high { IfOk result (λ task. task.high ≡ high) }
+{
     Ok(Task {
         lane: Lane(0),
         number: 0,
@@ -77,7 +80,9 @@ fn task_on(alloc: Global, low: Point, high: Point, edits: &[Edit]) -> Result<Tas
     })
 }
 
-fn at(x: i16, y: i16, z: i16) -> Point {
+fn at(x: i16, y: i16, z: i16) -> Point
+    ensures { result ≡ record { x = x; y = y; z = z } }
+{
     Point { x, y, z }
 }
 

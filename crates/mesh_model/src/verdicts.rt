@@ -1,6 +1,6 @@
 //! What edits answer.
 
-ghost use Rattle.std.specs.Prelude.{◌≡◌, ◌≢◌, ◌∷◌, ◌&&◌, ◌||◌, ◌==◌, [], not, filter, int_le, IfOk};
+ghost use Rattle.std.specs.Prelude.{◌≡◌, ◌≢◌, ◌∷◌, ◌&&◌, ◌||◌, ◌==◌, [], not, filter, int_le, None, IfOk, OnErr};
 ghost use Rattle.std.specs.List.{list_all, find};
 ghost use Rattle.std.specs.Option.{is_none};
 ghost use Rattle.mesh_data.specs.Edits.{is_held, is_free, pair_lines, if_any, edge_line, first_line, folds_with, cost, move_verdict, collapse_verdict, flip_verdict};
@@ -9,7 +9,7 @@ ghost use Rattle.mesh_data.specs.Octree.{is_inside};
 ghost use Rattle.mesh_data.specs.Rings.{has_closed_ring};
 ghost use Rattle.mesh_data.specs.Triangles.{corners, has_corner};
 ghost use Rattle.mesh_data.specs.declared.edits.Reply.TheVariants.{Border, Link, Closed, Folds, Dear, Done, DoneAt};
-ghost use Rattle.mesh_model.specs.Lines.{refusal};
+ghost use Rattle.edit_steps.specs.Lines.{refusal};
 
 use crate::areas::Area;
 use crate::plain_mesh::PlainMesh;
@@ -140,7 +140,8 @@ impl PlainMesh {
         v: Name,
         max: i128,
     ) -> Result<Reply, AllocError>
-        ensures { IfOk result (λ r. r ≡ collapse_verdict (is_inside area.now) self.now u v max) }
+        ensures reply { IfOk result (λ r. r ≡ collapse_verdict (is_inside area.now) self.now u v max) }
+        ensures memory { OnErr result (refusal (pair_lines (is_inside area.now) self.now u v) ≡ None) }
     {
         if let Some(reply) = self.pair_refusal(area, u, v) {
             return Ok(reply);

@@ -31,13 +31,13 @@ length-placed R x [] = refl
 length-placed R x (y ∷ ys) =
     elim (is_le (R x y)) as (λ b. length (cond b (x ∷ y ∷ ys) (y ∷ placed R x ys)) ≡ suc (suc (length ys))) [ true ↦ refl | false ↦ ap (λ (n : ℕ). suc n) (length-placed R x ys) ]
 
-length-in_order : {X : Type 0} (R : X → X → Ordering) (xs : List X) → length (in_order R xs) ≡ length xs
+pub length-in_order : {X : Type 0} (R : X → X → Ordering) (xs : List X) → length (in_order R xs) ≡ length xs
 length-in_order R [] = refl
 length-in_order R (x ∷ xs) = length-placed R x (in_order R xs) ∙ ap (λ (n : ℕ). suc n) (length-in_order R xs)
 
 -- ---- turned triangles
 
-turned_keeps : (P : Tri → Type 0) → ((t : Tri) → P t → P (record { a = t.b; b = t.c; c = t.a })) → (t : Tri) → P t → P (turned t)
+pub turned_keeps : (P : Tri → Type 0) → ((t : Tri) → P t → P (record { a = t.b; b = t.c; c = t.a })) → (t : Tri) → P t → P (turned t)
 turned_keeps P turn t h =
     let next = turn t h in
     let third = turn _ next in
@@ -67,7 +67,7 @@ renamed_on P Q u v w keeps on_v on_w =
     elim (eqb w u) as (λ b. eqb w u ≡ b → Q (cond b v w)) [ true ↦ λ _. on_v | false ↦ λ away. keeps w on_w (eqb-false w u away) ] refl
 
 -- two names stay different where they aren't u and v
-renamed_apart : (u v x y : ℕ) → x ≢ y → (x ≡ u → y ≡ v → ⊥) → (y ≡ u → x ≡ v → ⊥) → renamed u v x ≢ renamed u v y
+pub renamed_apart : (u v x y : ℕ) → x ≢ y → (x ≡ u → y ≡ v → ⊥) → (y ≡ u → x ≡ v → ⊥) → renamed u v x ≢ renamed u v y
 renamed_apart u v x y apart not_uv not_vu =
     elim (eqb x u) as (λ b. eqb x u ≡ b → cond b v x ≢ renamed u v y) [
       | true ↦ λ x_is. elim (eqb y u) as (λ b. eqb y u ≡ b → v ≢ cond b v y) [

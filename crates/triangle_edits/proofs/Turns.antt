@@ -72,7 +72,7 @@ turns_apart t a b c d ab cd (inr (inr e)) (inr (inr f)) = omega arith
 abbrev pub turns_to : ℕ → ℕ → ℕ → Tri → Bool
 turns_to a b c t = is_name (apex_in t a b) c
 
-name_is : (o : Option ℕ) (c : ℕ) → is_name o c ≡ true → o ≡ Some c
+pub name_is : (o : Option ℕ) (c : ℕ) → is_name o c ≡ true → o ≡ Some c
 name_is None c h = absurd (false≢true h)
 name_is (Some v) c h = ap (λ (n : ℕ). Some n) (eqb-true v c h)
 

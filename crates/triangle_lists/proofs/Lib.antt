@@ -15,3 +15,4 @@ pub mod Ringless
 pub mod EdgeCounts
 pub mod Rotations
 pub mod OnceLaws
+pub mod Filters

@@ -8,7 +8,7 @@ use Rattle.mesh_data.specs.Manifold.{IsTriangleOf}
 use Rattle.mesh_data.specs.Mesh.{Mesh}
 use Rattle.mesh_data.specs.Triangles.{tri_cmp}
 use Rattle.mesh_model.specs.Taken.{taken_over}
-use Rattle.mesh_model.specs.Totals.{HasPlanes}
+use Rattle.mesh_model.specs.PlaneCounts.{HasPlanes}
 use Rattle.mesh_model.proofs.Shares.{planes_taken_over, kept_taken_over, len-taken_over}
 use Rattle.mesh_model.proofs.Sorted.{sorted_collapsed}
 use Rattle.triangle_edits.proofs.Results.{triangles_collapsed}

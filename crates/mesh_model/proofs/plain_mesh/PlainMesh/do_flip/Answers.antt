@@ -1,6 +1,6 @@
 use Rattle.std.proofs.Common.{◌∙◌, sym}
 use Rattle.mesh_data.specs.Octree.{is_inside}
-use Rattle.mesh_model.proofs.Lines.{ends_of_flip}
+use Rattle.edit_steps.proofs.Passed.{ends_of_flip}
 use Rattle.mesh_model.proofs.plain_mesh.PlainMesh.do_flip.Goals as goal
 
 pub flip-requires-clause-ends : goal.flip-requires-clause-ends

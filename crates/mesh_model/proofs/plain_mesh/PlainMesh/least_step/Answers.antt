@@ -5,8 +5,8 @@ use Rattle.mesh_data.specs.declared.geometry.Tri.{Tri}
 use Rattle.mesh_data.specs.declared.edits.Reply.{Reply}
 use Rattle.mesh_data.specs.Octree.{is_inside}
 use Rattle.mesh_data.specs.Mesh.{Mesh}
-use Rattle.mesh_model.specs.Steps.{best_of, both_ways, answer_of}
-use Rattle.mesh_model.proofs.Tried.{best_is_least, best_more}
+use Rattle.edit_steps.specs.Steps.{best_of, both_ways, answer_of}
+use Rattle.edit_steps.proofs.Tried.{best_is_least, best_more}
 use Rattle.mesh_model.proofs.plain_mesh.PlainMesh.least_step.Goals as goal
 
 pub loop-t-preserved : goal.loop-t-preserved

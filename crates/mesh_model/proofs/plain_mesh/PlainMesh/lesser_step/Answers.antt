@@ -1,6 +1,6 @@
 use Rattle.std.proofs.Common.{◌∙◌, sym}
 use Rattle.mesh_data.specs.Octree.{is_inside}
-use Rattle.mesh_model.proofs.Tried.{unbeaten}
+use Rattle.edit_steps.proofs.Tried.{unbeaten}
 use Rattle.mesh_model.proofs.plain_mesh.PlainMesh.lesser_step.Goals as goal
 
 pub returns-then-not-beats : goal.returns-then-not-beats

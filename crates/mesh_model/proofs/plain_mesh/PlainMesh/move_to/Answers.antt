@@ -2,7 +2,7 @@ use Rattle.std.proofs.Common.{◌∙◌, ap, arith}
 use Rattle.std.specs.FinMap as finite
 use Rattle.std.specs.Ordering.{nat_cmp}
 use Rattle.mesh_data.specs.declared.geometry.Vertex.{Vertex}
-use Rattle.mesh_model.proofs.Vertices.{contains-changed}
+use Rattle.edit_steps.proofs.Vertices.{contains-changed}
 use Rattle.mesh_model.proofs.Starts.{triangles_of_same}
 use Rattle.mesh_model.proofs.Shares.{planes_moved}
 use Rattle.mesh_model.proofs.plain_mesh.PlainMesh.move_to.Goals as goal

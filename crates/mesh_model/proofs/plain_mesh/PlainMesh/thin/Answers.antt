@@ -6,9 +6,9 @@ use Rattle.mesh_data.specs.declared.edits.Step.{Step}
 use Rattle.mesh_data.specs.Edits.{collapsed, done_steps, least_step, Thinned, simplified, whole_count}
 use Rattle.mesh_data.specs.Mesh.{Mesh}
 use Rattle.mesh_data.specs.Octree.{is_inside}
-use Rattle.mesh_model.proofs.Lines.{can_collapse}
-use Rattle.mesh_model.proofs.Tried.{held_there}
-use Rattle.mesh_model.proofs.Thinned.{least_leads, kept_mesh, kept_steps, len-collapsed, stays, all_steps, reached, stuck}
+use Rattle.edit_steps.proofs.Passed.{can_collapse}
+use Rattle.edit_steps.proofs.Tried.{held_there}
+use Rattle.edit_steps.proofs.Thinned.{least_leads, kept_mesh, kept_steps, len-collapsed, stays, all_steps, reached, stuck}
 use Rattle.mesh_model.proofs.plain_mesh.PlainMesh.thin.Goals as goal
 use Rattle.mesh_model.proofs.plain_mesh.PlainMesh.thin.Goals.{else-loop-alloc-test, then-loop-alloc-test+in_ok-step+in_default}
 
@@ -18,7 +18,7 @@ collapse-requires-clause-apart c =
     let top = to_z w128 (of_z w128 c.args.max) in
     let m = c.loop-alloc.self in
     let s = c.in-Some.step in
-    (can_collapse inside m s.u s.v top s.cost (least_leads inside m top s (sym c.in_ok-step.ensures ∙ c.in-Some.is)).0).apart
+    (can_collapse inside m s.u s.v top s.cost (least_leads inside m top s (sym c.in_ok-step.ensures ∙ c.in-Some.is)).0).pair.apart
 
 pub collapse-requires-clause-there : goal.collapse-requires-clause-there
 collapse-requires-clause-there c =
@@ -26,7 +26,7 @@ collapse-requires-clause-there c =
     let top = to_z w128 (of_z w128 c.args.max) in
     let m = c.loop-alloc.self in
     let s = c.in-Some.step in
-    held_there inside m s.v (can_collapse inside m s.u s.v top s.cost (least_leads inside m top s (sym c.in_ok-step.ensures ∙ c.in-Some.is)).0).onto_held
+    held_there inside m s.v (can_collapse inside m s.u s.v top s.cost (least_leads inside m top s (sym c.in_ok-step.ensures ∙ c.in-Some.is)).0).pair.onto_held
 
 pub loop-alloc-smaller : goal.loop-alloc-smaller
 loop-alloc-smaller c =
@@ -35,7 +35,7 @@ loop-alloc-smaller c =
     let m = c.loop-alloc.self in
     let s = c.in-Some.step in
     let can = can_collapse inside m s.u s.v top s.cost (least_leads inside m top s (sym c.in_ok-step.ensures ∙ c.in-Some.is)).0 in
-    let fewer = len-collapsed m s.u s.v (held_there inside m s.u can.held) in
+    let fewer = len-collapsed m s.u s.v (held_there inside m s.u can.pair.held) in
     let made : c.collapse.new.self ≡ collapsed m s.u s.v = c.in_ok-collapse.ensures.ok in
     omega (arith, fewer, ap (λ (k : Mesh). finite.len k.vertices) made)
 

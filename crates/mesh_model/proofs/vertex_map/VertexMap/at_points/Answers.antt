@@ -7,7 +7,7 @@ use Rattle.mesh_data.specs.declared.geometry.Point.{Point}
 use Rattle.mesh_data.specs.declared.geometry.Vertex.{Vertex}
 use Rattle.mesh_data.specs.declared.planes.Plane.{Plane}
 use Rattle.mesh_data.specs.Mesh.{named_from, origin}
-use Rattle.mesh_model.proofs.Vertices.{vertices_from, one_named_before, len-one_before}
+use Rattle.edit_steps.proofs.Vertices.{vertices_from, one_named_before, len-one_before}
 use Rattle.mesh_model.proofs.vertex_map.VertexMap.at_points.Goals as goal
 
 pub loop-last-init : goal.loop-last-init

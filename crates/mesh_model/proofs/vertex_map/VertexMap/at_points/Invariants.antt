@@ -1,6 +1,6 @@
 use Rattle.std.proofs.Common.{◌≡◌, ℕ, ◌+◌, ◌<◌, ◌≤◌, [], length, get_or}
 use Rattle.std.specs.FinMap as finite
-use Rattle.mesh_model.proofs.Vertices.{vertices_from}
+use Rattle.edit_steps.proofs.Vertices.{vertices_from}
 use Rattle.mesh_model.proofs.vertex_map.VertexMap.at_points.Given as goal
 
 abbrev pub invariant-loop-last : goal.invariant-loop-last

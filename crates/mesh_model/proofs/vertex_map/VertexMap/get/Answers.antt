@@ -1,6 +1,6 @@
 use Rattle.std.proofs.Common.{ap, sym, ◌∙◌}
 use Rattle.std.specs.FinMap as finite
-use Rattle.mesh_model.proofs.Vertices.{get_vertex}
+use Rattle.edit_steps.proofs.Vertices.{get_vertex}
 use Rattle.mesh_model.proofs.vertex_map.VertexMap.get.Goals as goal
 
 pub returns : goal.returns

@@ -1,6 +1,6 @@
 use Rattle.std.proofs.Common.{ap, sym, ◌∙◌, length}
 use Rattle.std.specs.FinMap as finite
-use Rattle.mesh_model.proofs.Vertices.{entries-from_ordered}
+use Rattle.edit_steps.proofs.Vertices.{entries-from_ordered}
 use Rattle.mesh_model.proofs.vertex_map.VertexMap.len.Goals as goal
 
 pub returns : goal.returns

@@ -3,7 +3,7 @@ use Rattle.std.specs.FinMap as finite
 use Rattle.std.specs.List.Sorted.{IsStrictlySortedBy}
 use Rattle.std.specs.Map.{keys_of}
 use Rattle.std.specs.Ordering.{nat_cmp}
-use Rattle.mesh_model.proofs.Vertices.{keys-from_ordered, IsAboveLast-of_sorted}
+use Rattle.edit_steps.proofs.Vertices.{keys-from_ordered, IsAboveLast-of_sorted}
 use Rattle.mesh_model.proofs.vertex_map.VertexMap.names.Goals as goal
 
 pub loop-name-init : goal.loop-name-init

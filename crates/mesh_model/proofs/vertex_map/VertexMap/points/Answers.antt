@@ -1,7 +1,7 @@
 use Rattle.std.proofs.Common.{ap, sym, ◌∙◌, map}
 use Rattle.std.specs.FinMap as finite
 use Rattle.std.specs.Map.{values_of}
-use Rattle.mesh_model.proofs.Vertices.{Entries, entries-from_ordered}
+use Rattle.edit_steps.proofs.Vertices.{Entries, entries-from_ordered}
 use Rattle.mesh_model.proofs.vertex_map.VertexMap.points.Goals as goal
 
 pub returns : goal.returns

@@ -1,6 +1,6 @@
 use Rattle.std.proofs.Common.{ap, ◌∙◌}
 use Rattle.std.specs.FinMap as finite
-use Rattle.mesh_model.proofs.Vertices.{one_removed}
+use Rattle.edit_steps.proofs.Vertices.{one_removed}
 use Rattle.mesh_model.proofs.vertex_map.VertexMap.remove.Goals as goal
 
 pub returns : goal.returns

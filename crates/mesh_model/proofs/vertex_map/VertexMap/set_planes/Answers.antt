@@ -2,7 +2,7 @@ use Rattle.std.proofs.Common.{ap, sym, ◌∙◌, rules}
 use Rattle.std.specs.FinMap as finite
 use Rattle.std.specs.Ordering.{nat_cmp}
 use Rattle.mesh_data.specs.declared.geometry.Vertex.{Vertex}
-use Rattle.mesh_model.proofs.Vertices.{changed, changed_there, changed_nowhere}
+use Rattle.edit_steps.proofs.Vertices.{changed, changed_there, changed_nowhere}
 use Rattle.mesh_model.proofs.vertex_map.VertexMap.set_planes.Goals as goal
 use Rattle.mesh_model.proofs.vertex_map.VertexMap.set_planes.Goals.{in-Some, in_default}
 

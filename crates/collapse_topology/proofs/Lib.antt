@@ -1,0 +1,9 @@
+pub mod CollapsedFaces
+pub mod Splice
+pub mod OtherRings
+pub mod CollapsedEdges
+pub mod Pinched
+pub mod CollapsedRings
+pub mod CollapsedBorders
+pub mod Lists
+pub mod Meshes

@@ -1,0 +1,9 @@
+pub mod Tables
+pub mod Stars
+pub mod Locality
+pub mod SeenVerdicts
+pub mod SeenEffects
+pub mod SeenWork
+pub mod FarPairs
+pub mod Folding
+pub mod Held

@@ -1,0 +1,4 @@
+pub mod Alike
+pub mod Away
+pub mod Folding
+pub mod Held

@@ -1,0 +1,9 @@
+pub mod Vertices
+pub mod Totals
+pub mod Lines
+pub mod Passed
+pub mod Steps
+pub mod Tried
+pub mod Thinned
+pub mod EulerLaws
+pub mod Eulers

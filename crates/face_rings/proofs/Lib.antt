@@ -1,0 +1,10 @@
+pub mod Named
+pub mod Members
+pub mod Faces
+pub mod Paths
+pub mod Fans
+pub mod Around
+pub mod Tallies
+pub mod Corners
+pub mod Borders
+pub mod Oriented

@@ -1,0 +1,4 @@
+pub mod FlipFaces
+pub mod FlipRings
+pub mod Lists
+pub mod Meshes

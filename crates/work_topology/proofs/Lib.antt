@@ -1,0 +1,5 @@
+pub mod WorkKeeps
+pub mod Kept
+pub mod Ordered
+pub mod Frame
+pub mod Rims
