@@ -1,4 +1,15 @@
 pub mod Readings
 pub mod Texts
 pub mod Sources
+pub mod Boxes
+pub mod Takings
+pub mod MeshPhase
+pub mod ScriptPhase
+pub mod OutPhase
+pub mod Plays
+pub mod Stands
+pub mod Asked
+pub mod Written
+pub mod Leavings
+pub mod PhaseLaws
 pub mod RunLaws

@@ -12,7 +12,7 @@ use Rattle.mesh_data.specs.declared.items.MeshFault.{MeshFault}
 use Rattle.mesh_data.specs.declared.items.MeshFault.TheVariants.{Read, Text, TooMany, Memory}
 use Rattle.mesh_data.specs.declared.items.What.TheVariants.{Vertices}
 use Rattle.mesh_data.specs.declared.geometry.Soup.{Soup}
-use Rattle.mesh_data.specs.Reading.{Reading, behind, ReadsFault, fault_alone, nothing_more, soup, soup_of_items, soup_or, with_item}
+use Rattle.mesh_data.specs.Reading.{Reading, behind, Reads, ReadsFault, fault_alone, nothing_more, soup, soup_of_items, soup_or, with_item}
 use Rattle.oemm_run.specs.Soup.{behind_all, StopsAt, limited, most_vertices, GivesMeshFault}
 
 -- nothing was taken
@@ -55,6 +55,17 @@ points_more a b c ps p h i = subst (λ front. a ≡ option_map (behind_all front
 -- one face more
 pub faces_more : (a b c : Option Reading) (ts : List Tri) (t : Tri) → a ≡ option_map (behind_all (map Face ts)) b → b ≡ option_map (behind (Face t)) c → a ≡ option_map (behind_all (map Face (ts ++ t ∷ []))) c
 faces_more a b c ts t h i = subst (λ front. a ≡ option_map (behind_all front) c) (sym (map-append Face ts (t ∷ []))) (all_more a b c (map Face ts) (Face t) h i)
+
+-- the same where the item and what was pushed are known by equations
+pub points_next : (a b c : Option Reading) (ps all : List Point) (next : Option Item) (item : Item) (p : Point) → next ≡ Some item → item ≡ Vertex p → a ≡ option_map (behind_all (map Vertex ps)) b → Reads b (Ok next) c → all ≡ ps ++ p ∷ [] → a ≡ option_map (behind_all (map Vertex all)) c
+points_next a b c ps all next item p some is h i pushed =
+    let given : Reads b (Ok (Some (Vertex p))) c = subst (λ (x : Item). Reads b (Ok (Some x)) c) is (subst (λ (o : Option Item). Reads b (Ok o) c) some i) in
+    subst (λ (xs : List Point). a ≡ option_map (behind_all (map Vertex xs)) c) (sym pushed) (points_more a b c ps p h given)
+
+pub faces_next : (a b c : Option Reading) (ts all : List Tri) (next : Option Item) (item : Item) (t : Tri) → next ≡ Some item → item ≡ Face t → a ≡ option_map (behind_all (map Face ts)) b → Reads b (Ok next) c → all ≡ ts ++ t ∷ [] → a ≡ option_map (behind_all (map Face all)) c
+faces_next a b c ts all next item t some is h i pushed =
+    let given : Reads b (Ok (Some (Face t))) c = subst (λ (x : Item). Reads b (Ok (Some x)) c) is (subst (λ (o : Option Item). Reads b (Ok o) c) some i) in
+    subst (λ (xs : List Tri). a ≡ option_map (behind_all (map Face xs)) c) (sym pushed) (faces_more a b c ts t h given)
 
 -- faces behind one another are their soup
 soup_faces : (ts : List Tri) → soup_of_items (map Face ts ++ []) ≡ record { points = []; faces = ts }

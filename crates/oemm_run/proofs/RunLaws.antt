@@ -1,283 +1,309 @@
--- What the relation of a run follows from, and what follows from it.
-use Rattle.std.proofs.Common.{◌≡◌, ℕ, Bool, true, false, nat_lt, List, [], ◌∷◌, length, map, if◌then◌else◌, Some, None, Result, Ok, Err, IfSome, IsSome, refl, subst, sym, ap, ◌∙◌, inl, inr, arith}
+-- What follows from what the top call gives.
+use Rattle.std.proofs.Common.{◌≡◌, ◌≤◌, ℕ, List, Option, Some, None, Ok, Err, IfSome, IsSome, refl, subst, sym, ap, inl, inr, arith}
 use Rattle.std.proofs.lemmas.Bool.{false≢true}
-use Rattle.fault_counts.specs.Counts.{Rose, IsCalm}
-use Rattle.fault_counts.specs.Told.{Told, IsAtEnd}
-use Rattle.mesh_data.specs.declared.geometry.Cell.{Cell}
-use Rattle.mesh_data.specs.declared.geometry.Point.{Point}
+use Rattle.fault_counts.specs.Counts.{IsCalm}
 use Rattle.mesh_data.specs.declared.geometry.Soup.{Soup}
-use Rattle.mesh_data.specs.declared.geometry.Tri.{Tri}
 use Rattle.mesh_data.specs.declared.edits.Task.{Task}
 use Rattle.mesh_data.specs.declared.shapes.Shape.{Shape}
 use Rattle.mesh_data.specs.declared.shapes.Audit.TheVariants as audit
-use Rattle.mesh_data.specs.declared.items.MeshFault.{MeshFault}
+use Rattle.mesh_data.specs.Keeps.{tasks_of}
 use Rattle.mesh_data.specs.Manifold.{IsManifold, Audits}
-use Rattle.mesh_model.proofs.Audits.{one_shape, no_shape}
-use Rattle.mesh_data.specs.Mesh.{Mesh, start, points_of}
-use Rattle.mesh_data.specs.Octree.{core_of, area_of, is_inside}
-use Rattle.mesh_data.specs.Work.{Did, do_task, play, wide_entry, work}
-use Rattle.mesh_out.specs.declared.form.Form.{Form}
-use Rattle.mesh_out.specs.Form.{form_text}
-use Rattle.mesh_out.specs.MeshBytes.{mesh_bytes, faces_of}
-use Rattle.edit_script.specs.declared.fault.ScriptFault.{ScriptFault}
-use Rattle.edit_script.specs.declared.fault.ScriptFault.TheVariants as script
+use Rattle.mesh_data.specs.Mesh.{start}
+use Rattle.mesh_model.proofs.Audits.{no_shape}
+use Rattle.work_topology.proofs.WorkKeeps.{each_keeps}
 use Rattle.edit_script.specs.Grammar.{script_of}
-use Rattle.edit_script.specs.Script.{GivesFault}
 use Rattle.oemm_run.specs.declared.end.End.{End}
-use Rattle.oemm_run.specs.declared.shape.ShapeFault.{ShapeFault}
-use Rattle.oemm_run.specs.declared.shape.ShapeFault.TheVariants as shape
 use Rattle.oemm_run.specs.declared.end.End.TheVariants.{Done, Usage, ReadMesh, ReadScript, MeshText, MeshShape, ScriptText, WriteOut, WriteReport, Limit, Memory}
-use Rattle.oemm_run.specs.Laws.{HasReadMesh, HasGoodMesh, HasGoodInput, WritesPlay, Headline, IsComplete, TellsUsage, TellsMeshFault, TellsShape, TellsScriptFault}
-use Rattle.oemm_run.specs.Outside.{Outside, Wrote, FailedIn}
-use Rattle.oemm_run.specs.Phases.{WritesTexts, end_of_mesh, end_of_script, end_of_shape}
-use Rattle.oemm_run.specs.Run.{RunGives, AreRun, HasMesh, HasManifold, HasScript, HasMeshFault, HasBadShape, HasScriptFault, IsDone, played, report_text, one_leaf, core_limit}
-use Rattle.oemm_run.specs.Shape.{GivesStart}
+use Rattle.oemm_run.specs.declared.orders.Order.{Order}
+use Rattle.oemm_run.specs.declared.orders.Order.TheVariants.{Run}
+use Rattle.oemm_run.specs.Commands.Run.{Asked, one_leaf, AtScript, AtTasks, IsDone, RunGives, StopsAtMesh, StopsAtShape, StopsAtScript, StopsAtOut, StopsAtReport}
+use Rattle.oemm_run.specs.Gives.{Refuses, GivesOrder, Gives}
+use Rattle.oemm_run.specs.Laws.Headline.{AskFor, WritesPlay, Headline}
+use Rattle.oemm_run.specs.Laws.Ends.{EndsAs, AreRun, HasReadMesh, HasGoodMesh, HasGoodInput, IsComplete, TellsUsage, TellsMeshFault, TellsShape, TellsScriptFault, TellsAs, TellsFailures}
+use Rattle.oemm_run.specs.Outside.{Outside, Input, Output}
+use Rattle.oemm_run.specs.Phases.Mesh.{HasMesh, MeshCause}
+use Rattle.oemm_run.specs.Phases.Script.{ScriptCause}
+use Rattle.oemm_run.specs.Phases.Shape.{ShapeStops}
+use Rattle.oemm_run.specs.Phases.Tasks.{TasksStop, played}
+use Rattle.oemm_run.specs.Phases.Out.{OutStops}
+use Rattle.oemm_run.specs.Phases.Report.{ReportStops}
 use Rattle.oemm_run.specs.Soup.{soup_of}
-use Rattle.oemm_run.specs.Words.{order_of, form_of}
-
--- the texts that are written are the run's
-abbrev Gives : List (List ℕ) → Outside → Outside → List ℕ → List ℕ → Soup → List Task → End → Type 0
-Gives words before after mesh text s tasks end = HasScript words before s tasks → IsAtEnd after.script.left → mesh ≡ mesh_bytes (form_of words) (played s tasks).mesh → text ≡ report_text (played s tasks) → WritesTexts before.out after.out before.report after.report mesh text end → RunGives words before after end
-
--- the points and faces of the mesh that is left make its file
-pub written_mesh : (words : List (List ℕ)) (form : Form) (m n : Mesh) (points : List Point) (faces : List Tri) → form_of words ≡ form → points ≡ points_of m → faces ≡ faces_of m → m ≡ n → form_text form points faces ≡ mesh_bytes (form_of words) n
-written_mesh words form m n points faces asked p f same = cc
-
--- once the mesh and the script were read, a run gives what writing gives
-pub gives_written : (words : List (List ℕ)) (before after : Outside) (mesh text : List ℕ) (s : Soup) (tasks : List Task) (end : End) → Gives words before after mesh text s tasks end
-gives_written words before after mesh text s tasks Done read b m t w =
-    record { soup = s; tasks = tasks; earlier = read; script_end = b; out = subst (Wrote before.out after.out) m w.0; report = subst (Wrote before.report after.report) t w.1 }
-gives_written words before after mesh text s tasks WriteOut read b m t w =
-    record { soup = s; tasks = tasks; earlier = read; out = subst (FailedIn before.out after.out) m w.0; report = w.1 }
-gives_written words before after mesh text s tasks WriteReport read b m t w =
-    record { soup = s; tasks = tasks; earlier = read; out = subst (Wrote before.out after.out) m w.0; report = subst (FailedIn before.report after.report) t w.1 }
-gives_written words before after mesh text s tasks Usage read b m t w = absurd w
-gives_written words before after mesh text s tasks ReadMesh read b m t w = absurd w
-gives_written words before after mesh text s tasks ReadScript read b m t w = absurd w
-gives_written words before after mesh text s tasks (MeshText at why) read b m t w = absurd w
-gives_written words before after mesh text s tasks (MeshShape shape) read b m t w = absurd w
-gives_written words before after mesh text s tasks (ScriptText line why) read b m t w = absurd w
-gives_written words before after mesh text s tasks (Limit what count) read b m t w = absurd w
-gives_written words before after mesh text s tasks Memory read b m t w = tt
-
--- once the mesh was read and is a manifold, a run whose script can't be read gives this
-script_fault_gives : (words : List (List ℕ)) (before after : Outside) (s : Soup) (fault : ScriptFault) → HasManifold words before s → IfSome before.script.left (λ bytes. GivesFault fault (script_of bytes)) → (fault ≡ script.Read → Rose before.script.faults after.script.faults) → RunGives words before after (end_of_script fault)
-script_fault_gives words before after s script.Read has told rose = record { soup = s; earlier = has; cause = rose refl }
-script_fault_gives words before after s (script.Syntax line why) has told rose = record { soup = s; earlier = has; script = told }
-script_fault_gives words before after s (script.TooMany what count) has told rose = inr (record { soup = s; earlier = has; script = told })
-script_fault_gives words before after s script.Memory has told rose = tt
-
-pub gives_script_fault : (words : List (List ℕ)) (before after : Outside) (s : Soup) (fault : ScriptFault) (end : End) → end ≡ end_of_script fault → HasManifold words before s → IfSome before.script.left (λ bytes. GivesFault fault (script_of bytes)) → (fault ≡ script.Read → Rose before.script.faults after.script.faults) → RunGives words before after end
-gives_script_fault words before after s fault end is has told rose =
-    subst (λ (e : End). RunGives words before after e) (sym is) (script_fault_gives words before after s fault has told rose)
-
--- once the mesh was read, a run whose mesh can't be worked on gives this
-shape_fault_gives : (words : List (List ℕ)) (before after : Outside) (s : Soup) (fault : ShapeFault) → HasMesh words before s → GivesStart s (Err fault) → after.script ≡ before.script → RunGives words before after (end_of_shape fault)
-shape_fault_gives words before after s (shape.Bad what) has begun same = record { soup = s; earlier = has; bad = begun; script = same }
-shape_fault_gives words before after s shape.Memory has begun same = tt
-
-pub gives_shape_fault : (words : List (List ℕ)) (before after : Outside) (s : Soup) (fault : ShapeFault) (end : End) → end ≡ end_of_shape fault → HasMesh words before s → GivesStart s (Err fault) → after.script ≡ before.script → RunGives words before after end
-gives_shape_fault words before after s fault end is has begun same =
-    subst (λ (e : End). RunGives words before after e) (sym is) (shape_fault_gives words before after s fault has begun same)
-
--- ---- the play
-
-chosen_task : (wide : Bool) (x y : Did) (task : Task) → x.entry.task ≡ task → y.entry.task ≡ task → (if wide then x else y).entry.task ≡ task
-chosen_task true x y task p q = p
-chosen_task false x y task p q = q
-
--- a task's entry is of that task
-entry_task : (cells : List Cell) (limit : ℕ) (m : Mesh) (task : Task) → (do_task cells limit m task).entry.task ≡ task
-entry_task cells limit m task =
-    let core = core_of cells task.low task.high in
-    let worked = work (is_inside (area_of cells core)) m task.edits in
-    chosen_task (nat_lt limit (length core)) (record { mesh = m; entry = wide_entry task })
-    (record { mesh = worked.mesh; entry = record { task = task; wide = false; replies = worked.replies; core = core } }) task refl refl
-
--- the journal of a play has its tasks
-journal_tasks : (cells : List Cell) (limit : ℕ) (m : Mesh) (tasks : List Task) → map (λ e. e.task) (play cells limit m tasks).journal ≡ tasks
-journal_tasks cells limit m [] = refl
-journal_tasks cells limit m (task ∷ tasks) =
-    let did = do_task cells limit m task in
-    ap (λ t. t ∷ map (λ e. e.task) (play cells limit did.mesh tasks).journal) (entry_task cells limit m task)
-    ∙ ap (λ ts. task ∷ ts) (journal_tasks cells limit did.mesh tasks)
-
--- what is written of a play is that play
-writes_play : (form : Form) (before after : Outside) (s : Soup) (tasks : List Task) → Wrote before.out after.out (mesh_bytes form (played s tasks).mesh) → Wrote before.report after.report (report_text (played s tasks)) → WritesPlay form before after s tasks
-unfolding played
-writes_play form before after s tasks out report =
-    let p = play one_leaf core_limit (start s) tasks in
-    let same : map (λ e. e.task) p.journal ≡ tasks = journal_tasks one_leaf core_limit (start s) tasks in
-    record {
-      mesh = p.mesh;
-      journal = p.journal;
-      done = same;
-      one_by_one = ap (play one_leaf core_limit (start s)) same;
-      out = out;
-      report = report;
-    }
-
--- ---- readings that exclude one another
-
--- a source that tells its bytes tells what they lead to
-at_bytes : (told : Told) (bytes : List ℕ) (P : List ℕ → Type 0) → told ≡ Some bytes → IfSome told P → P bytes
-at_bytes told bytes P e h = subst (λ o. IfSome o P) e h
-
-calm_rises : (before now : ℕ) → IsCalm before now → Rose before now → ⊥
-calm_rises before now calm rose = omega (arith, calm.0, calm.1, rose)
-
-clash : {A E : Type 0} (r : Result A E) (x : A) (e : E) → r ≡ Ok x → r ≡ Err e → ⊥
-clash r x e p q = cc
-
-one_answer : {A E : Type 0} (r : Result A E) (x y : A) → r ≡ Ok x → r ≡ Ok y → x ≡ y
-one_answer r x y p q = cc
-
-one_fault : {A E : Type 0} (r : Result A E) (x y : E) → r ≡ Err x → r ≡ Err y → x ≡ y
-one_fault r x y p q = cc
-
-no_order : (words : List (List ℕ)) → AreRun words → order_of words ≡ None → ⊥
-no_order words run none = false≢true (subst IsSome none run)
-
--- a good mesh is no other one, and has no fault
-same_soup : (words : List (List ℕ)) (before : Outside) (s t : Soup) → HasReadMesh words before s → HasMesh words before t → t ≡ s
-same_soup words before s t good read =
-    one_answer (soup_of good.bytes) t s (at_bytes before.mesh.left good.bytes (λ b. soup_of b ≡ Ok t) good.told read.mesh) good.soup
-
-no_mesh_fault : (words : List (List ℕ)) (before after : Outside) (s : Soup) (f : MeshFault) → HasReadMesh words before s → HasMeshFault words before after f → ⊥
-no_mesh_fault words before after s f good bad =
-    clash (soup_of good.bytes) s f good.soup (at_bytes before.mesh.left good.bytes (λ b. soup_of b ≡ Err f) good.told bad.mesh)
-
--- a manifold has no bad shape, and a mesh no two
-no_bad_shape : (words : List (List ℕ)) (before after : Outside) (s : Soup) (shape : Shape) → HasGoodMesh words before s → HasBadShape words before after shape → ⊥
-no_bad_shape words before after s shape good bad =
-    no_shape (start s) shape good.manifold (subst (λ (t : Soup). Audits (start t) (audit.Bad shape)) (same_soup words before s bad.soup good.read bad.earlier) bad.bad)
-
-no_manifold : (words : List (List ℕ)) (before : Outside) (s t : Soup) (shape : Shape) → HasReadMesh words before s → Audits (start s) (audit.Bad shape) → HasManifold words before t → ⊥
-no_manifold words before s t shape read bad has =
-    no_shape (start s) shape (subst (λ (r : Soup). IsManifold (start r)) (same_soup words before s t read has.earlier) has.manifold) bad
-
-this_shape : (words : List (List ℕ)) (before after : Outside) (s : Soup) (shape other : Shape) → HasReadMesh words before s → Audits (start s) (audit.Bad shape) → HasBadShape words before after other → other ≡ shape
-this_shape words before after s shape other read bad has =
-    one_shape (start s) other shape (subst (λ (t : Soup). Audits (start t) (audit.Bad other)) (same_soup words before s has.soup read has.earlier) has.bad) bad
-
--- a good script is no other one, and has no fault
-same_tasks : (words : List (List ℕ)) (before : Outside) (s t : Soup) (tasks more : List Task) → HasGoodInput words before s tasks → HasScript words before t more → more ≡ tasks
-same_tasks words before s t tasks more good read =
-    one_answer (script_of good.bytes) more tasks (at_bytes before.script.left good.bytes (λ b. script_of b ≡ Ok more) good.told read.script) good.script
-
-no_script_fault : (words : List (List ℕ)) (before : Outside) (s : Soup) (tasks : List Task) (f : ScriptFault) → HasGoodInput words before s tasks → HasScriptFault words before f → ⊥
-no_script_fault words before s tasks f good bad =
-    clash (script_of good.bytes) tasks f good.script (at_bytes before.script.left good.bytes (λ b. script_of b ≡ Err f) good.told bad.script)
+use Rattle.oemm_run.specs.Words.{order_of}
+use Rattle.oemm_run.proofs.PhaseLaws.{at_bytes, same_soup, not_read, mesh_good, mesh_bad, shape_good, shape_bad, not_read_script, script_good, script_bad, tasks_good, out_good, report_bad, report_calm}
+use Rattle.oemm_run.proofs.Stands.{Stands, all_done, at_mesh, at_shape, at_script, at_tasks, at_out, at_report, stands}
 
 -- ---- the headline
 
-done_writes : (words : List (List ℕ)) (before after : Outside) (s : Soup) (tasks : List Task) → HasGoodInput words before s tasks → IsDone words before after → WritesPlay (form_of words) before after s tasks
-done_writes words before after s tasks good done =
-    let soups : done.soup ≡ s = same_soup words before s done.soup good.mesh.read done.earlier.earlier.earlier in
-    let scripts : done.tasks ≡ tasks = same_tasks words before s done.soup tasks done.tasks good done.earlier in
-    subst (λ t. WritesPlay (form_of words) before after t tasks) soups
-    (subst (λ ts. WritesPlay (form_of words) before after done.soup ts) scripts (writes_play (form_of words) before after done.soup done.tasks done.out done.report))
+-- what a run that is done has written
+done_writes : (words : List (List ℕ)) (asked : Asked) (before after : Outside) (bytes text : List ℕ) → AskFor (order_of words) asked → before.mesh.left ≡ Some bytes → before.script.left ≡ Some text → IsDone asked before after → WritesPlay words before after bytes text
+unfolding played
+done_writes words asked before after bytes text ask mesh script done =
+    let out = done.earlier in
+    let tasks = out.earlier in
+    let read = tasks.earlier in
+    record {
+      asked = asked;
+      words_ask = ask;
+      soup = tasks.soup;
+      mesh_said = at_bytes before.mesh.left bytes (λ b. soup_of b ≡ Ok tasks.soup) mesh read.earlier.mesh.told;
+      manifold = read.earlier.manifold;
+      tasks = tasks.tasks;
+      script_said = at_bytes before.script.left text (λ b. script_of b ≡ Ok tasks.tasks) script read.script.told;
+      mesh = done.played.mesh;
+      journal = done.played.journal;
+      each_once = tasks.play.kept;
+      one_by_one = tasks.play.one_by_one;
+      keeps = each_keeps one_leaf asked.core (start tasks.soup) (tasks_of done.played.journal) read.earlier.manifold;
+      out = out.out;
+      report = done.report;
+    }
 
-ends_done : (words : List (List ℕ)) (before after : Outside) (end : End) → RunGives words before after end → (s : Soup) (tasks : List Task) → HasGoodInput words before s tasks → end ≡ Done → WritesPlay (form_of words) before after s tasks
-ends_done words before after Done gives s tasks good e = done_writes words before after s tasks good gives
-ends_done words before after Usage gives s tasks good e = absurd (cc)
-ends_done words before after ReadMesh gives s tasks good e = absurd (cc)
-ends_done words before after ReadScript gives s tasks good e = absurd (cc)
-ends_done words before after (MeshText at why) gives s tasks good e = absurd (cc)
-ends_done words before after (MeshShape shape) gives s tasks good e = absurd (cc)
-ends_done words before after (ScriptText line why) gives s tasks good e = absurd (cc)
-ends_done words before after WriteOut gives s tasks good e = absurd (cc)
-ends_done words before after WriteReport gives s tasks good e = absurd (cc)
-ends_done words before after (Limit what count) gives s tasks good e = absurd (cc)
-ends_done words before after Memory gives s tasks good e = absurd (cc)
+ordered_done : (words : List (List ℕ)) (order : Option Order) (before after : Outside) (bytes text : List ℕ) → order ≡ order_of words → GivesOrder order before after Done → before.mesh.left ≡ Some bytes → before.script.left ≡ Some text → WritesPlay words before after bytes text
+ordered_done words None before after bytes text is gives mesh script = absurd gives
+ordered_done words (Some (Run m s o form cap core cache workers)) before after bytes text is gives mesh script =
+    let asked : Asked = record { form = form; core = core } in
+    done_writes words asked before after bytes text (subst (λ (order : Option Order). AskFor order asked) is refl) mesh script gives
 
-pub headline : (words : List (List ℕ)) (before after : Outside) (end : End) → RunGives words before after end → Headline words before after end
-headline words before after end gives = record { writes = ends_done words before after end gives }
+pub headline : (words : List (List ℕ)) (before after : Outside) (end : End) → Gives words before after end → Headline words before after end
+headline words before after end gives bytes text mesh script done =
+    ordered_done words (order_of words) before after bytes text refl (subst (Gives words before after) done gives).given mesh script
+
+-- ---- where the words ask for a run
+
+-- a run stands somewhere
+pub record StandsSomewhere (before after : Outside) (end : End) : Type 0 where
+  pub asked : Asked
+  pub there : Stands asked before after end
+
+ordered_stands : (order : Option Order) (before after : Outside) (end : End) → IsSome order → GivesOrder order before after end → StandsSomewhere before after end
+ordered_stands None before after end some gives = absurd (false≢true some)
+ordered_stands (Some (Run m s o form cap core cache workers)) before after end some gives =
+    let asked : Asked = record { form = form; core = core } in
+    record { asked = asked; there = stands asked before after end gives }
+
+pub run_stands : (words : List (List ℕ)) (before after : Outside) (end : End) → AreRun words → Gives words before after end → StandsSomewhere before after end
+run_stands words before after end run gives = ordered_stands (order_of words) before after end run gives.given
+
+-- ---- the mesh
+
+module _ (asked : Asked) (before after : Outside) (end : End) (bytes : List ℕ) (told : before.mesh.left ≡ Some bytes) where
+  -- where its text has a fault the run tells that, unless the source fails
+  fault_told : (fault : Rattle.mesh_data.specs.declared.items.MeshFault.MeshFault) → soup_of bytes ≡ Err fault → IsCalm before.mesh.faults after.mesh.faults → Stands asked before after end → EndsAs (Rattle.oemm_run.specs.Phases.Mesh.end_of_mesh fault) end
+  fault_told fault bad calm (all_done e h) = absurd (not_read before.mesh after.mesh bytes told fault _ bad h.earlier.earlier.earlier.earlier.mesh)
+  fault_told fault bad calm (at_mesh h) = mesh_bad before.mesh after.mesh bytes told fault end bad calm h.mesh.cause
+  fault_told fault bad calm (at_shape h) = absurd (not_read before.mesh after.mesh bytes told fault _ bad h.mesh)
+  fault_told fault bad calm (at_script h) = absurd (not_read before.mesh after.mesh bytes told fault _ bad h.earlier.mesh)
+  fault_told fault bad calm (at_tasks h) = absurd (not_read before.mesh after.mesh bytes told fault _ bad h.earlier.earlier.mesh)
+  fault_told fault bad calm (at_out h) = absurd (not_read before.mesh after.mesh bytes told fault _ bad h.earlier.earlier.earlier.mesh)
+  fault_told fault bad calm (at_report h) = absurd (not_read before.mesh after.mesh bytes told fault _ bad h.earlier.earlier.earlier.earlier.mesh)
+
+  -- another mesh that was read is this one
+  read_start : (P : Soup → Type 0) (s t : Soup) → soup_of bytes ≡ Ok s → HasMesh before.mesh after.mesh t → P t → P s
+  read_start P s t good has p = subst P (same_soup before.mesh after.mesh bytes told s t good has) p
+
+  no_manifold : (s t : Soup) (shape : Shape) → soup_of bytes ≡ Ok s → Audits (start s) (audit.Bad shape) → AtScript before after t → ⊥
+  no_manifold s t shape good bad at =
+      no_shape (start s) shape (read_start (λ r. IsManifold (start r)) s t good at.mesh at.manifold) bad
+
+  -- where it is no manifold the run tells why, unless the source fails
+  shape_told : (s : Soup) (shape : Shape) → soup_of bytes ≡ Ok s → Audits (start s) (audit.Bad shape) → IsCalm before.mesh.faults after.mesh.faults → Stands asked before after end → EndsAs (MeshShape shape) end
+  shape_told s shape good bad calm (all_done e h) = absurd (no_manifold s _ shape good bad h.earlier.earlier.earlier.earlier)
+  shape_told s shape good bad calm (at_mesh h) = inr (mesh_good before.mesh after.mesh bytes told s end good calm h.mesh.cause)
+  shape_told s shape good bad calm (at_shape h) = shape_bad s shape end bad (read_start (λ r. ShapeStops r end) s h.soup good h.mesh h.shape)
+  shape_told s shape good bad calm (at_script h) = absurd (no_manifold s _ shape good bad h.earlier)
+  shape_told s shape good bad calm (at_tasks h) = absurd (no_manifold s _ shape good bad h.earlier.earlier)
+  shape_told s shape good bad calm (at_out h) = absurd (no_manifold s _ shape good bad h.earlier.earlier.earlier)
+  shape_told s shape good bad calm (at_report h) = absurd (no_manifold s _ shape good bad h.earlier.earlier.earlier.earlier)
+
+  -- where it is one, the run stops before the script for want of memory alone, unless the source fails
+  early : (s : Soup) → soup_of bytes ≡ Ok s → IsManifold (start s) → IsCalm before.mesh.faults after.mesh.faults → StopsAtShape before after end → end ≡ Memory
+  early s good manifold calm h = shape_good s end manifold (read_start (λ r. ShapeStops r end) s h.soup good h.mesh h.shape)
+
+pub tells_mesh_fault : (words : List (List ℕ)) (before after : Outside) (end : End) → Gives words before after end → TellsMeshFault words before after end
+tells_mesh_fault words before after end gives bytes fault run told bad calm =
+    let stand = run_stands words before after end run gives in
+    fault_told stand.asked before after end bytes told fault bad calm stand.there
+
+pub tells_shape : (words : List (List ℕ)) (before after : Outside) (end : End) → Gives words before after end → TellsShape words before after end
+tells_shape words before after end gives s shape read bad calm =
+    let stand = run_stands words before after end read.run gives in
+    shape_told stand.asked before after end read.bytes read.told s shape read.soup bad calm stand.there
+
+-- ---- the script
+
+script_told : (words : List (List ℕ)) (asked : Asked) (before after : Outside) (end : End) (s : Soup) (text : List ℕ) (fault : Rattle.edit_script.specs.declared.fault.ScriptFault.ScriptFault) → HasGoodMesh words before s → before.script.left ≡ Some text → script_of text ≡ Err fault → IsCalm before.mesh.faults after.mesh.faults → IsCalm before.script.faults after.script.faults → Stands asked before after end → EndsAs (Rattle.oemm_run.specs.Phases.Script.end_of_script fault) end
+script_told words asked before after end s text fault good told bad calm calm' (all_done e h) = absurd (not_read_script before.script after.script text told fault _ bad h.earlier.earlier.earlier.script)
+script_told words asked before after end s text fault good told bad calm calm' (at_mesh h) = inr (mesh_good before.mesh after.mesh good.read.bytes good.read.told s end good.read.soup calm h.mesh.cause)
+script_told words asked before after end s text fault good told bad calm calm' (at_shape h) = inr (early asked before after end good.read.bytes good.read.told s good.read.soup good.manifold calm h)
+script_told words asked before after end s text fault good told bad calm calm' (at_script h) = script_bad before.script after.script text told fault end bad calm' h.script.cause
+script_told words asked before after end s text fault good told bad calm calm' (at_tasks h) = absurd (not_read_script before.script after.script text told fault _ bad h.earlier.script)
+script_told words asked before after end s text fault good told bad calm calm' (at_out h) = absurd (not_read_script before.script after.script text told fault _ bad h.earlier.earlier.script)
+script_told words asked before after end s text fault good told bad calm calm' (at_report h) = absurd (not_read_script before.script after.script text told fault _ bad h.earlier.earlier.earlier.script)
+
+pub tells_script_fault : (words : List (List ℕ)) (before after : Outside) (end : End) → Gives words before after end → TellsScriptFault words before after end
+tells_script_fault words before after end gives s text fault good told bad calm calm' =
+    let stand = run_stands words before after end good.read.run gives in
+    script_told words stand.asked before after end s text fault good told bad calm calm' stand.there
 
 -- ---- completeness
 
-pub complete : (words : List (List ℕ)) (before after : Outside) (end : End) → RunGives words before after end → IsComplete words before after end
-complete words before after Done gives s tasks good calm = inl refl
-complete words before after Usage gives s tasks good calm = absurd (no_order words good.mesh.read.run gives.none)
-complete words before after ReadMesh gives s tasks good calm = absurd (calm_rises _ _ calm.mesh gives.cause)
-complete words before after (MeshText at why) gives s tasks good calm = absurd (no_mesh_fault words before after s _ good.mesh.read gives)
-complete words before after (MeshShape shape) gives s tasks good calm = absurd (no_bad_shape words before after s shape good.mesh gives)
-complete words before after ReadScript gives s tasks good calm = absurd (calm_rises _ _ calm.script gives.cause)
-complete words before after (ScriptText line why) gives s tasks good calm = absurd (no_script_fault words before s tasks _ good gives)
-complete words before after WriteOut gives s tasks good calm = absurd (calm_rises _ _ calm.out gives.out.cause)
-complete words before after WriteReport gives s tasks good calm = absurd (calm_rises _ _ calm.report gives.report.cause)
-complete words before after (Limit what count) (inl bad) s tasks good calm = absurd (no_mesh_fault words before after s _ good.mesh.read bad)
-complete words before after (Limit what count) (inr bad) s tasks good calm = absurd (no_script_fault words before s tasks _ good bad)
-complete words before after Memory gives s tasks good calm = inr refl
+all_good : (words : List (List ℕ)) (asked : Asked) (before after : Outside) (end : End) (s : Soup) (tasks : List Task) → HasGoodInput words before s tasks → IsCalm before.mesh.faults after.mesh.faults → IsCalm before.script.faults after.script.faults → IsCalm before.out.faults after.out.faults → IsCalm before.report.faults after.report.faults → Stands asked before after end → EndsAs Done end
+all_good words asked before after end s tasks good mesh script out report (all_done e h) = inl e
+all_good words asked before after end s tasks good mesh script out report (at_mesh h) = let read = good.mesh.read in inr (mesh_good before.mesh after.mesh read.bytes read.told s end read.soup mesh h.mesh.cause)
+all_good words asked before after end s tasks good mesh script out report (at_shape h) = let read = good.mesh.read in inr (early asked before after end read.bytes read.told s read.soup good.mesh.manifold mesh h)
+all_good words asked before after end s tasks good mesh script out report (at_script h) = inr (script_good before.script after.script good.bytes good.told tasks end good.script script h.script.cause)
+all_good words asked before after end s tasks good mesh script out report (at_tasks h) = inr (tasks_good end h.stop)
+all_good words asked before after end s tasks good mesh script out report (at_out h) = inr (out_good before.out after.out _ end out h.out)
+all_good words asked before after end s tasks good mesh script out report (at_report h) = absurd (report_calm before.report after.report _ end report h.report)
 
--- ---- the faults of the words and of the texts
+pub complete : (words : List (List ℕ)) (before after : Outside) (end : End) → Gives words before after end → IsComplete words before after end
+complete words before after end gives s tasks good calm =
+    let stand = run_stands words before after end good.mesh.read.run gives in
+    all_good words stand.asked before after end s tasks good calm.mesh calm.script calm.out calm.report stand.there
 
-pub tells_usage : (words : List (List ℕ)) (before after : Outside) (end : End) → RunGives words before after end → TellsUsage words end
-tells_usage words before after Done gives none = absurd (no_order words gives.earlier.earlier.earlier.run none)
-tells_usage words before after Usage gives none = inl refl
-tells_usage words before after ReadMesh gives none = absurd (no_order words gives.run none)
-tells_usage words before after (MeshText at why) gives none = absurd (no_order words gives.run none)
-tells_usage words before after (MeshShape shape) gives none = absurd (no_order words gives.earlier.run none)
-tells_usage words before after ReadScript gives none = absurd (no_order words gives.earlier.earlier.run none)
-tells_usage words before after (ScriptText line why) gives none = absurd (no_order words gives.earlier.earlier.run none)
-tells_usage words before after WriteOut gives none = absurd (no_order words gives.earlier.earlier.earlier.run none)
-tells_usage words before after WriteReport gives none = absurd (no_order words gives.earlier.earlier.earlier.run none)
-tells_usage words before after (Limit what count) (inl bad) none = absurd (no_order words bad.run none)
-tells_usage words before after (Limit what count) (inr bad) none = absurd (no_order words bad.earlier.earlier.run none)
-tells_usage words before after Memory gives none = inr refl
+-- ---- words in no form
 
-module _ (words : List (List ℕ)) (before : Outside) (bytes : List ℕ) (fault : MeshFault) (told : before.mesh.left ≡ Some bytes) (bad : soup_of bytes ≡ Err fault) where
-  not_read : (s : Soup) → HasMesh words before s → ⊥
-  not_read s read = clash (soup_of bytes) s fault (at_bytes before.mesh.left bytes (λ b. soup_of b ≡ Ok s) told read.mesh) bad
+refusal_ends : (before after : Outside) (end : End) → Refuses before after end → EndsAs Usage end
+refusal_ends before after Usage refuses = inl refl
+refusal_ends before after Memory refuses = inr refl
+refusal_ends before after _ refuses = absurd refuses
 
-  this_mesh_fault : (after : Outside) (f : MeshFault) → HasMeshFault words before after f → f ≡ fault
-  this_mesh_fault after f h = one_fault (soup_of bytes) f fault (at_bytes before.mesh.left bytes (λ b. soup_of b ≡ Err f) told h.mesh) bad
+no_form_ends : (order : Option Order) (before after : Outside) (end : End) → order ≡ None → GivesOrder order before after end → EndsAs Usage end
+no_form_ends None before after end none gives = refusal_ends before after end gives
+no_form_ends (Some order) before after end none gives = absurd (cc)
 
-pub tells_mesh_fault : (words : List (List ℕ)) (before after : Outside) (end : End) → RunGives words before after end → TellsMeshFault words before after end
-tells_mesh_fault words before after Done gives bytes fault run told bad calm = absurd (not_read words before bytes fault told bad _ gives.earlier.earlier.earlier)
-tells_mesh_fault words before after Usage gives bytes fault run told bad calm = absurd (no_order words run gives.none)
-tells_mesh_fault words before after ReadMesh gives bytes fault run told bad calm = absurd (calm_rises _ _ calm gives.cause)
-tells_mesh_fault words before after (MeshText at why) gives bytes fault run told bad calm = inl (ap end_of_mesh (this_mesh_fault words before bytes fault told bad after _ gives))
-tells_mesh_fault words before after (MeshShape shape) gives bytes fault run told bad calm = absurd (not_read words before bytes fault told bad _ gives.earlier)
-tells_mesh_fault words before after ReadScript gives bytes fault run told bad calm = absurd (not_read words before bytes fault told bad _ gives.earlier.earlier)
-tells_mesh_fault words before after (ScriptText line why) gives bytes fault run told bad calm = absurd (not_read words before bytes fault told bad _ gives.earlier.earlier)
-tells_mesh_fault words before after WriteOut gives bytes fault run told bad calm = absurd (not_read words before bytes fault told bad _ gives.earlier.earlier.earlier)
-tells_mesh_fault words before after WriteReport gives bytes fault run told bad calm = absurd (not_read words before bytes fault told bad _ gives.earlier.earlier.earlier)
-tells_mesh_fault words before after (Limit what count) (inl h) bytes fault run told bad calm = inl (ap end_of_mesh (this_mesh_fault words before bytes fault told bad after _ h))
-tells_mesh_fault words before after (Limit what count) (inr h) bytes fault run told bad calm = absurd (not_read words before bytes fault told bad _ h.earlier.earlier)
-tells_mesh_fault words before after Memory gives bytes fault run told bad calm = inr refl
+usage_of_none : (order : Option Order) (before after : Outside) → GivesOrder order before after Usage → order ≡ None
+usage_of_none None before after gives = refl
+usage_of_none (Some (Run m s o form cap core cache workers)) before after gives = absurd gives
 
-module _ (words : List (List ℕ)) (before : Outside) (bytes : List ℕ) (fault : ScriptFault) (told : before.script.left ≡ Some bytes) (bad : script_of bytes ≡ Err fault) where
-  not_read_script : (s : Soup) (tasks : List Task) → HasScript words before s tasks → ⊥
-  not_read_script s tasks read = clash (script_of bytes) tasks fault (at_bytes before.script.left bytes (λ b. script_of b ≡ Ok tasks) told read.script) bad
+pub tells_usage : (words : List (List ℕ)) (before after : Outside) (end : End) → Gives words before after end → TellsUsage words end
+tells_usage words before after end gives = record {
+  told = λ none. no_form_ends (order_of words) before after end none gives.given;
+  only = λ e. usage_of_none (order_of words) before after (subst (Gives words before after) e gives).given;
+}
 
-  this_script_fault : (f : ScriptFault) → HasScriptFault words before f → f ≡ fault
-  this_script_fault f h = one_fault (script_of bytes) f fault (at_bytes before.script.left bytes (λ b. script_of b ≡ Err f) told h.script) bad
+-- ---- failures
 
-pub tells_script_fault : (words : List (List ℕ)) (before after : Outside) (end : End) → RunGives words before after end → TellsScriptFault words before after end
-tells_script_fault words before after Done gives s bytes fault good told bad calm calm' = absurd (not_read_script words before bytes fault told bad _ _ gives.earlier)
-tells_script_fault words before after Usage gives s bytes fault good told bad calm calm' = absurd (no_order words good.read.run gives.none)
-tells_script_fault words before after ReadMesh gives s bytes fault good told bad calm calm' = absurd (calm_rises _ _ calm gives.cause)
-tells_script_fault words before after (MeshText at why) gives s bytes fault good told bad calm calm' = absurd (no_mesh_fault words before after s _ good.read gives)
-tells_script_fault words before after (MeshShape shape) gives s bytes fault good told bad calm calm' = absurd (no_bad_shape words before after s shape good gives)
-tells_script_fault words before after ReadScript gives s bytes fault good told bad calm calm' = absurd (calm_rises _ _ calm' gives.cause)
-tells_script_fault words before after (ScriptText line why) gives s bytes fault good told bad calm calm' = inl (ap end_of_script (this_script_fault words before bytes fault told bad _ gives))
-tells_script_fault words before after WriteOut gives s bytes fault good told bad calm calm' = absurd (not_read_script words before bytes fault told bad _ _ gives.earlier)
-tells_script_fault words before after WriteReport gives s bytes fault good told bad calm calm' = absurd (not_read_script words before bytes fault told bad _ _ gives.earlier)
-tells_script_fault words before after (Limit what count) (inl h) s bytes fault good told bad calm calm' = absurd (no_mesh_fault words before after s _ good.read h)
-tells_script_fault words before after (Limit what count) (inr h) s bytes fault good told bad calm calm' = inl (ap end_of_script (this_script_fault words before bytes fault told bad _ h))
-tells_script_fault words before after Memory gives s bytes fault good told bad calm calm' = inr refl
+-- an object that stands as it was at an end that isn't its own
+as_it_was : (failed : End) (before now : ℕ) (end : End) → (end ≡ failed → ⊥) → now ≡ before → TellsAs failed before now end
+as_it_was failed before now end other same =
+    record { kept = omega (arith, same); cause = λ e. absurd (other e); calm = inr same }
 
-pub tells_shape : (words : List (List ℕ)) (before after : Outside) (end : End) → RunGives words before after end → TellsShape words before after end
-tells_shape words before after Done gives s shape read bad calm = absurd (no_manifold words before s _ shape read bad gives.earlier.earlier)
-tells_shape words before after Usage gives s shape read bad calm = absurd (no_order words read.run gives.none)
-tells_shape words before after ReadMesh gives s shape read bad calm = absurd (calm_rises _ _ calm gives.cause)
-tells_shape words before after (MeshText at why) gives s shape read bad calm = absurd (no_mesh_fault words before after s _ read gives)
-tells_shape words before after (MeshShape other) gives s shape read bad calm = inl (ap (λ (x : Shape). MeshShape x) (this_shape words before after s shape other read bad gives))
-tells_shape words before after ReadScript gives s shape read bad calm = absurd (no_manifold words before s _ shape read bad gives.earlier)
-tells_shape words before after (ScriptText line why) gives s shape read bad calm = absurd (no_manifold words before s _ shape read bad gives.earlier)
-tells_shape words before after WriteOut gives s shape read bad calm = absurd (no_manifold words before s _ shape read bad gives.earlier.earlier)
-tells_shape words before after WriteReport gives s shape read bad calm = absurd (no_manifold words before s _ shape read bad gives.earlier.earlier)
-tells_shape words before after (Limit what count) (inl h) s shape read bad calm = absurd (no_mesh_fault words before after s _ read h)
-tells_shape words before after (Limit what count) (inr h) s shape read bad calm = absurd (no_manifold words before s _ shape read bad h.earlier)
-tells_shape words before after Memory gives s shape read bad calm = inr refl
+mesh_tells : (before after : Input) (end : End) → MeshCause before after end → TellsAs ReadMesh before.faults after.faults end
+mesh_tells before after ReadMesh cause = record { kept = cause.kept; cause = λ e. cause.rose; calm = inl refl }
+mesh_tells before after (MeshText at why) cause = as_it_was ReadMesh _ _ (MeshText at why) (λ e. cc) cause.calm
+mesh_tells before after (Limit what count) cause = as_it_was ReadMesh _ _ (Limit what count) (λ e. cc) cause.calm
+mesh_tells before after Memory cause = as_it_was ReadMesh _ _ Memory (λ e. cc) cause
+mesh_tells before after _ cause = absurd cause
+
+script_tells : (before after : Input) (end : End) → ScriptCause before after end → TellsAs ReadScript before.faults after.faults end
+script_tells before after ReadScript cause = record { kept = cause.kept; cause = λ e. cause.rose; calm = inl refl }
+script_tells before after (ScriptText line why) cause = as_it_was ReadScript _ _ (ScriptText line why) (λ e. cc) cause.calm
+script_tells before after (Limit what count) cause = as_it_was ReadScript _ _ (Limit what count) (λ e. cc) cause.calm
+script_tells before after Memory cause = as_it_was ReadScript _ _ Memory (λ e. cc) cause
+script_tells before after _ cause = absurd cause
+
+out_tells : (before after : Output) (text : List ℕ) (end : End) → OutStops before after text end → TellsAs WriteOut before.faults after.faults end
+out_tells before after text WriteOut stops = record { kept = stops.cause.kept; cause = λ e. stops.cause.rose; calm = inl refl }
+out_tells before after text Memory stops = as_it_was WriteOut _ _ Memory (λ e. cc) (ap (λ (o : Output). o.faults) stops)
+out_tells before after text _ stops = absurd stops
+
+report_tells : (before after : Output) (text : List ℕ) (end : End) → ReportStops before after text end → TellsAs WriteReport before.faults after.faults end
+report_tells before after text WriteReport stops = record { kept = stops.cause.kept; cause = λ e. stops.cause.rose; calm = inl refl }
+report_tells before after text _ stops = absurd stops
+
+-- an end of a phase isn't one of another phase's object
+mesh_only : (failed : End) (before after : Input) (end : End) → (MeshCause before after failed → ⊥) → MeshCause before after end → end ≡ failed → ⊥
+mesh_only failed before after end never cause e = never (subst (MeshCause before after) e cause)
+
+script_only : (failed : End) (before after : Input) (end : End) → (ScriptCause before after failed → ⊥) → ScriptCause before after end → end ≡ failed → ⊥
+script_only failed before after end never cause e = never (subst (ScriptCause before after) e cause)
+
+shape_only : (failed : End) (s : Soup) (end : End) → (ShapeStops s failed → ⊥) → ShapeStops s end → end ≡ failed → ⊥
+shape_only failed s end never stops e = never (subst (ShapeStops s) e stops)
+
+tasks_only : (failed : End) (end : End) → (TasksStop failed → ⊥) → TasksStop end → end ≡ failed → ⊥
+tasks_only failed end never stops e = never (subst TasksStop e stops)
+
+out_only : (failed : End) (before after : Output) (text : List ℕ) (end : End) → (OutStops before after text failed → ⊥) → OutStops before after text end → end ≡ failed → ⊥
+out_only failed before after text end never stops e = never (subst (OutStops before after text) e stops)
+
+report_only : (failed : End) (before after : Output) (text : List ℕ) (end : End) → (ReportStops before after text failed → ⊥) → ReportStops before after text end → end ≡ failed → ⊥
+report_only failed before after text end never stops e = never (subst (ReportStops before after text) e stops)
+
+input_same : (before after : Input) → after ≡ before → after.faults ≡ before.faults
+input_same before after same = ap (λ (x : Input). x.faults) same
+
+output_same : (before after : Output) → after ≡ before → after.faults ≡ before.faults
+output_same before after same = ap (λ (x : Output). x.faults) same
+
+-- a run tells each failure as itself
+run_failures : (asked : Asked) (before after : Outside) (end : End) → Stands asked before after end → TellsFailures before after end
+run_failures asked before after end (all_done e h) =
+    let tasks = h.earlier.earlier.earlier in record {
+      mesh = as_it_was ReadMesh _ _ end (λ f. cc) tasks.earlier.mesh.calm;
+      script = as_it_was ReadScript _ _ end (λ f. cc) tasks.script.calm;
+      out = as_it_was WriteOut _ _ end (λ f. cc) h.earlier.out.calm;
+      report = as_it_was WriteReport _ _ end (λ f. cc) h.report.calm;
+    }
+run_failures asked before after end (at_mesh h) = let cause = h.mesh.cause in record {
+  mesh = mesh_tells before.mesh after.mesh end cause;
+  script = as_it_was ReadScript _ _ end (mesh_only ReadScript before.mesh after.mesh end (λ x. x) cause) (input_same before.script after.script h.script);
+  out = as_it_was WriteOut _ _ end (mesh_only WriteOut before.mesh after.mesh end (λ x. x) cause) (output_same before.out after.out h.sinks.out);
+  report = as_it_was WriteReport _ _ end (mesh_only WriteReport before.mesh after.mesh end (λ x. x) cause) (output_same before.report after.report h.sinks.report);
+}
+run_failures asked before after end (at_shape h) = record {
+  mesh = as_it_was ReadMesh _ _ end (shape_only ReadMesh h.soup end (λ x. x) h.shape) h.mesh.calm;
+  script = as_it_was ReadScript _ _ end (shape_only ReadScript h.soup end (λ x. x) h.shape) (input_same before.script after.script h.script);
+  out = as_it_was WriteOut _ _ end (shape_only WriteOut h.soup end (λ x. x) h.shape) (output_same before.out after.out h.sinks.out);
+  report = as_it_was WriteReport _ _ end (shape_only WriteReport h.soup end (λ x. x) h.shape) (output_same before.report after.report h.sinks.report);
+}
+run_failures asked before after end (at_script h) = let cause = h.script.cause in record {
+  mesh = as_it_was ReadMesh _ _ end (script_only ReadMesh before.script after.script end (λ x. x) cause) h.earlier.mesh.calm;
+  script = script_tells before.script after.script end cause;
+  out = as_it_was WriteOut _ _ end (script_only WriteOut before.script after.script end (λ x. x) cause) (output_same before.out after.out h.sinks.out);
+  report = as_it_was WriteReport _ _ end (script_only WriteReport before.script after.script end (λ x. x) cause) (output_same before.report after.report h.sinks.report);
+}
+run_failures asked before after end (at_tasks h) = record {
+  mesh = as_it_was ReadMesh _ _ end (tasks_only ReadMesh end (λ x. x) h.stop) h.earlier.earlier.mesh.calm;
+  script = as_it_was ReadScript _ _ end (tasks_only ReadScript end (λ x. x) h.stop) h.earlier.script.calm;
+  out = as_it_was WriteOut _ _ end (tasks_only WriteOut end (λ x. x) h.stop) (output_same before.out after.out h.sinks.out);
+  report = as_it_was WriteReport _ _ end (tasks_only WriteReport end (λ x. x) h.stop) (output_same before.report after.report h.sinks.report);
+}
+run_failures asked before after end (at_out h) = let tasks = h.earlier.earlier in record {
+  mesh = as_it_was ReadMesh _ _ end (out_only ReadMesh before.out after.out _ end (λ x. x) h.out) tasks.earlier.mesh.calm;
+  script = as_it_was ReadScript _ _ end (out_only ReadScript before.out after.out _ end (λ x. x) h.out) tasks.script.calm;
+  out = out_tells before.out after.out _ end h.out;
+  report = as_it_was WriteReport _ _ end (out_only WriteReport before.out after.out _ end (λ x. x) h.out) (output_same before.report after.report h.report);
+}
+run_failures asked before after end (at_report h) = let tasks = h.earlier.earlier.earlier in record {
+  mesh = as_it_was ReadMesh _ _ end (report_only ReadMesh before.report after.report _ end (λ x. x) h.report) tasks.earlier.mesh.calm;
+  script = as_it_was ReadScript _ _ end (report_only ReadScript before.report after.report _ end (λ x. x) h.report) tasks.script.calm;
+  out = as_it_was WriteOut _ _ end (report_only WriteOut before.report after.report _ end (λ x. x) h.report) h.earlier.out.calm;
+  report = report_tells before.report after.report _ end h.report;
+}
+
+-- and so does a refusal
+refusal_failures : (before after : Outside) (end : End) → Refuses before after end → TellsFailures before after end
+refusal_failures before after Usage same = record {
+  mesh = as_it_was ReadMesh _ _ Usage (λ e. cc) (ap (λ (o : Outside). o.mesh.faults) same);
+  script = as_it_was ReadScript _ _ Usage (λ e. cc) (ap (λ (o : Outside). o.script.faults) same);
+  out = as_it_was WriteOut _ _ Usage (λ e. cc) (ap (λ (o : Outside). o.out.faults) same);
+  report = as_it_was WriteReport _ _ Usage (λ e. cc) (ap (λ (o : Outside). o.report.faults) same);
+}
+refusal_failures before after Memory same = record {
+  mesh = as_it_was ReadMesh _ _ Memory (λ e. cc) (ap (λ (o : Outside). o.mesh.faults) same);
+  script = as_it_was ReadScript _ _ Memory (λ e. cc) (ap (λ (o : Outside). o.script.faults) same);
+  out = as_it_was WriteOut _ _ Memory (λ e. cc) (ap (λ (o : Outside). o.out.faults) same);
+  report = as_it_was WriteReport _ _ Memory (λ e. cc) (ap (λ (o : Outside). o.report.faults) same);
+}
+refusal_failures before after _ same = absurd same
+
+ordered_failures : (order : Option Order) (before after : Outside) (end : End) → GivesOrder order before after end → TellsFailures before after end
+ordered_failures None before after end gives = refusal_failures before after end gives
+ordered_failures (Some (Run m s o form cap core cache workers)) before after end gives =
+    let asked : Asked = record { form = form; core = core } in
+    run_failures asked before after end (stands asked before after end gives)
+
+pub tells_failures : (words : List (List ℕ)) (before after : Outside) (end : End) → Gives words before after end → TellsFailures before after end
+tells_failures words before after end gives = ordered_failures (order_of words) before after end gives.given

@@ -2,8 +2,9 @@ pub mod End
 pub mod Report
 pub mod Words
 pub mod Soup
-pub mod Shape
+pub mod Texts
 pub mod Outside
-pub mod Run
 pub mod Phases
+pub mod Commands
+pub mod Gives
 pub mod Laws

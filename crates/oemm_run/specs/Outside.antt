@@ -1,7 +1,7 @@
 -- What contracts see of the objects that a command reads and writes.
 use Rattle.std.specs.Prelude.{◌≡◌, ℕ, ◌≤◌, Bool, true, List}
 use Rattle.fault_counts.specs.Counts.{Rose, IsCalm}
-use Rattle.fault_counts.specs.Told.{Told, Puts, PutsFront}
+use Rattle.fault_counts.specs.Told.{Told, TakesSome, Puts, PutsFront}
 use Rattle.oemm_io.specs.Whole.{StaysOpen}
 
 -- a source: the bytes that it has left, if it tells them, and how often it has failed
@@ -9,11 +9,17 @@ pub record Input : Type 0 where
   pub left : Told
   pub faults : ℕ
 
+abbrev pub input : Told → ℕ → Input
+input left faults = record { left = left; faults = faults }
+
 -- a sink: the bytes that it holds, if it tells them, how often it has failed, and whether it is finished
 pub record Output : Type 0 where
   pub held : Told
   pub faults : ℕ
   pub finished : Bool
+
+abbrev pub output : Told → ℕ → Bool → Output
+output held faults finished = record { held = held; faults = faults; finished = finished }
 
 pub record Outside : Type 0 where
   pub mesh : Input
@@ -21,28 +27,31 @@ pub record Outside : Type 0 where
   pub out : Output
   pub report : Output
 
--- the text was put, all of it and nothing else, and the sink is finished
+-- bytes were taken from the front of what was left, or none
+pub record HasTaken (old new : Told) : Type 0 where
+  pub some : TakesSome old new
+
+-- an object has failed: its count of faults has risen, and has not fallen
+pub record HasFailed (before now : ℕ) : Type 0 where
+  pub kept : before ≤ now
+  pub rose : Rose before now
+
+-- the text was put, all of it and nothing else, the sink is finished, and it hasn't failed
 pub record Wrote (before after : Output) (text : List ℕ) : Type 0 where
   pub whole : Puts before.held after.held text
   pub finished : after.finished ≡ true
+  pub calm : after.faults ≡ before.faults
 
 -- the sink failed, a front of the text was put, and the sink isn't finished unless it was before
 pub record FailedIn (before after : Output) (text : List ℕ) : Type 0 where
-  pub cause : Rose before.faults after.faults
+  pub cause : HasFailed before.faults after.faults
   pub front : PutsFront before.held after.held text
   pub unfinished : StaysOpen before.finished after.finished
 
 -- both sinks are as they were
-pub record IsUntouched (before after : Outside) : Type 0 where
+pub record IsUnwritten (before after : Outside) : Type 0 where
   pub out : after.out ≡ before.out
   pub report : after.report ≡ before.report
-
--- no count of faults has fallen
-pub record KeepsCounts (before after : Outside) : Type 0 where
-  pub mesh : before.mesh.faults ≤ after.mesh.faults
-  pub script : before.script.faults ≤ after.script.faults
-  pub out : before.out.faults ≤ after.out.faults
-  pub report : before.report.faults ≤ after.report.faults
 
 -- nothing has failed, and no count of faults stands at its end
 pub record AllCalm (before after : Outside) : Type 0 where

@@ -1,16 +1,13 @@
 //! The top call: what the program does, from the words of the command line on.
 #![tactic(auto)]
 
+mod commands;
 mod end;
 mod end_line;
-mod front;
 mod io;
-mod mesh_source;
+pub mod laws;
 mod orders;
 mod phases;
-mod play;
-mod shape;
-mod soup;
 mod summary;
 mod top;
 mod words;

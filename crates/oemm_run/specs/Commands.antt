@@ -1,0 +1,2 @@
+-- What each command gives, by cases on its end.
+pub mod Run

@@ -1,0 +1,3 @@
+//! The commands, each from its phases.
+
+pub mod run;
