@@ -1,59 +1,106 @@
 //! The program `oemm`: edits a triangle mesh by a script.
 #![tactic(auto)]
 
-ghost use Rattle.std.specs.Prelude.{◌≡◌, None, Ok, IfOk};
+ghost use Rattle.std.specs.Prelude.{◌≡◌, ◌≢◌, None, IfOk, map};
+ghost use Rattle.std.specs.IoError.{error_kind};
+ghost use Rattle.std.specs.Process.{exit_status};
 ghost use Rattle.std.specs.String.{string_bytes};
+ghost use Rattle.std.specs.Vec.Iter.{into_iter_items};
+ghost use Rattle.std.specs.declared.io.ErrorKind.TheVariants.{OutOfMemory};
+ghost use Rattle.oemm_run.specs.End.{status_of};
+ghost use Rattle.oemm_run.specs.Gives.{Gives};
 ghost use Rattle.oemm_run.specs.Words.{order_of};
 ghost use Rattle.oemm.specs.Paths.{path_of};
+ghost use Rattle.oemm.specs.Program.{untouched, EndsOn};
 
 use mesh_data::CommandWords;
 use oemm_io::{FileSink, FileSource, StdSink};
-use oemm_run::{End, Io, Roles, WordsFault, end_text, roles, run, status};
-use std::alloc::AllocError;
+use oemm_run::{End, Io, Roles, Seen, WordsFault, end_text, roles, run, status};
+use std::alloc::{AllocError, Global};
+use std::env::Args;
 use std::process::ExitCode;
 use std::rt::{Env, Files};
 use std::{env, io, str};
 
+/// The objects of the system that the program works on.
+type SystemIo<R> = Io<FileSource<R>, FileSource<R>, FileSink<R>, StdSink<R>>;
+
 fn main(rt: HostRuntime) -> ExitCode {
     let end = match command_words(&rt) {
-        Ok(words) => perform(&rt, &words).unwrap_or(End::Memory),
+        Ok(words) => end_on(&rt, &words),
         Err(end) => end,
     };
     let _ = tell(&rt, &end);
-    ExitCode::from(status(&end))
+    exit_code(&end)
 }
 
-/// The words of the command line after the program's name. A word that isn't UTF-8 is in no form.
+/// The exit code that tells how the command ended.
+fn exit_code(end: &End) -> ExitCode
+    ensures { exit_status result ≡ status_of end.now }
+{
+    ExitCode::from(status(end))
+}
+
+/// The words of the command line after the program's name, or the end of a command whose words can't be had.
 fn command_words<R: Env + AllocGlobal>(rt: &R) -> Result<CommandWords, End> {
-    let args = match env::args(rt) {
+    let mut args = match env::args(rt) {
         Ok(args) => args,
-        Err(error) if error.kind() == io::ErrorKind::OutOfMemory => return Err(End::Memory),
-        Err(_) => return Err(End::Usage),
+        Err(error) => return Err(end_without_words(&error)),
     };
-    let mut words = CommandWords::new(rt.alloc());
-    for word in args.skip(1) {
-        if words.push(word.as_str()).is_err() {
-            return Err(End::Memory);
-        }
+    let _name = args.next();
+    words_of(rt.alloc(), args).map_err(|_| End::Memory)
+}
+
+/// The end of a command whose words can't be had: want of memory, or a word that isn't UTF-8, which is in no form.
+fn end_without_words(error: &io::Error) -> End
+    ensures memory { error_kind error.now ≡ OutOfMemory → result ≡ End.Memory }
+    ensures usage { error_kind error.now ≢ OutOfMemory → result ≡ End.Usage }
+{
+    if error.kind() == io::ErrorKind::OutOfMemory {
+        End::Memory
+    } else {
+        End::Usage
+    }
+}
+
+/// These words, all of them.
+fn words_of(alloc: Global, args: Args) -> Result<CommandWords, AllocError>
+    ensures { IfOk result (λ words. words ≡ map string_bytes (into_iter_items args)) }
+{
+    let mut words = CommandWords::new(alloc);
+    for word in args {
+        words.push(word.as_str())?;
     }
     Ok(words)
 }
 
-/// Does what the words ask for, on files and standard output.
+/// How the command ends that the words ask for, on files and standard output.
+#[tactic(auto, using(crate::proofs::Refusals::no_form))]
+fn end_on<R: Files + Print + AllocGlobal + Clone + Drop>(rt: &R, words: &CommandWords) -> End
+    ensures { EndsOn words.now result }
+{
+    match perform(rt, words) {
+        Ok((_io, end)) => end,
+        Err(WordsFault::Usage) => End::Usage,
+        Err(WordsFault::Memory) => End::Memory,
+    }
+}
+
+/// Does what the words ask for, on files and standard output, of which nothing was asked before. They come back with
+/// the end.
+///
+/// # Errors
+/// `Usage` where the words are in no form, and `Memory`. Then nothing was touched.
 fn perform<R: Files + Print + AllocGlobal + Clone + Drop>(
     rt: &R,
     words: &CommandWords,
-) -> Result<End, AllocError>
-    ensures usage { order_of words.now ≡ None → IfOk result (λ end. end ≡ End.Usage) }
-    ensures form { result ≡ Ok End.Usage → order_of words.now ≡ None }
+) -> Result<(SystemIo<R>, End), WordsFault>
+    ensures gives { IfOk result (λ done. Gives words.now untouched (⟦<SystemIo<R> as Seen>⟧.outside done.0) done.1) }
+    ensures usage { result ≡ Err WordsFault.Usage → order_of words.now ≡ None }
 {
-    let roles = match roles(words) {
-        Ok(roles) => roles,
-        Err(WordsFault::Usage) => return Ok(End::Usage),
-        Err(WordsFault::Memory) => return Err(AllocError),
-    };
-    let (_io, end) = run(rt.alloc(), words, io_of(rt, words, &roles)?);
-    Ok(end)
+    let roles = roles(words)?;
+    let io = io_of(rt, words, &roles)?;
+    Ok(run(rt.alloc(), words, io))
 }
 
 /// The files at the paths that the words name, and standard output.
@@ -61,10 +108,11 @@ fn io_of<R: Files + Print + AllocGlobal + Clone + Drop>(
     rt: &R,
     words: &CommandWords,
     roles: &Roles,
-) -> Result<Io<FileSource<R>, FileSource<R>, FileSink<R>, StdSink<R>>, AllocError>
+) -> Result<SystemIo<R>, AllocError>
     ensures mesh { IfOk result (λ io. io.mesh.path ≡ path_of words.now roles.now.mesh) }
     ensures script { IfOk result (λ io. io.script.path ≡ path_of words.now roles.now.script) }
     ensures out { IfOk result (λ io. io.out.path ≡ path_of words.now roles.now.out) }
+    ensures untouched { IfOk result (λ io. ⟦<SystemIo<R> as Seen>⟧.outside io ≡ untouched) }
 {
     Ok(Io {
         mesh: FileSource::new(rt.clone()?, path_at(rt, words, roles.mesh)?),
