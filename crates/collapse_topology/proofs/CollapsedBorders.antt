@@ -12,7 +12,7 @@ use Rattle.face_rings.proofs.Tallies.{AreOnce, face_tally, tally_both}
 use Rattle.face_rings.proofs.Named.{Different, Unique}
 use Rattle.face_rings.specs.Faces.{IsBorder, Face, ◌∈◌}
 use Rattle.mesh_data.specs.RingChanges.{CollapsesEdges, HasEdge}
-use Rattle.mesh_data.specs.Edits.{collapsed_tris, put_for, renamed}
+use Rattle.mesh_data.specs.Edits.{collapsed_tris, substituted, renamed}
 use Rattle.mesh_data.specs.Links.{has_both}
 use Rattle.mesh_data.specs.Triangles.{IsProper, border_edges, tri_cmp, turned}
 use Rattle.mesh_data.specs.declared.geometry.Tri.{Tri}
@@ -205,7 +205,7 @@ pub two_lost : (ts : List Tri) (u v r s : ℕ) → u ≢ v → AllByRecursion Is
 unfolding collapsed_tris
 two_lost ts u v r s uv proper once f g =
     let kept = filter (λ t. not (has_both u v t)) ts in
-    let put : Tri → Tri = λ t. turned (put_for u v t) in
+    let put : Tri → Tri = λ t. turned (substituted u v t) in
     omega (
       arith,
       length-in_order tri_cmp (map put kept),

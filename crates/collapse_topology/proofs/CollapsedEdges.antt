@@ -4,7 +4,7 @@ use Rattle.face_rings.proofs.Faces.{Apart, Face_back, Face_turn, Near, three}
 use Rattle.face_rings.proofs.Tallies.{AreOnce, edge_face, kept_face, kept_tris, often-append, often_either, often_more, sides-turned, some_often, tally, tally-filter, tally-in_order, tally_face, two_at_most, unique_of}
 use Rattle.face_rings.proofs.Named.{Different, Unique}
 use Rattle.face_rings.specs.Faces.{Face}
-use Rattle.mesh_data.specs.Edits.{collapsed_tris, put_for, renamed}
+use Rattle.mesh_data.specs.Edits.{collapsed_tris, substituted, renamed}
 use Rattle.mesh_data.specs.Links.{has_both}
 use Rattle.mesh_data.specs.Triangles.{directed_edges, same_edge, sides, turned}
 use Rattle.mesh_data.specs.declared.geometry.Edge.{Edge}
@@ -42,17 +42,17 @@ abbrev pub moved_edge : ℕ → ℕ → Edge → Edge
 moved_edge u v d = step (renamed u v d.a) (renamed u v d.b)
 
 -- edges of renamed triangles are renamed edges
-tally-put : (p : Edge → Bool) (u v : ℕ) (ts : List Tri) → tally p (map (λ t. turned (put_for u v t)) ts) ≡ tally (λ d. p (moved_edge u v d)) ts
+tally-put : (p : Edge → Bool) (u v : ℕ) (ts : List Tri) → tally p (map (λ t. turned (substituted u v t)) ts) ≡ tally (λ d. p (moved_edge u v d)) ts
 unfolding tally
 tally-put p u v [] = refl
 tally-put p u v (t ∷ ts) =
-    let put : Tri = turned (put_for u v t) in
-    omega (arith, often-append p (sides put) (directed_edges (map (λ t. turned (put_for u v t)) ts)), sides-turned p (put_for u v t), tally-put p u v ts)
+    let put : Tri = turned (substituted u v t) in
+    omega (arith, often-append p (sides put) (directed_edges (map (λ t. turned (substituted u v t)) ts)), sides-turned p (substituted u v t), tally-put p u v ts)
 
 -- the edges after a collapse are those that are kept, renamed
 pub tally-collapsed : (p : Edge → Bool) (u v : ℕ) (ts : List Tri) → tally p (collapsed_tris u v ts) ≡ tally (λ d. p (moved_edge u v d)) (kept_tris u v ts)
 unfolding collapsed_tris
-tally-collapsed p u v ts = tally-in_order p (map (λ t. turned (put_for u v t)) (kept_tris u v ts)) ∙ tally-put p u v (kept_tris u v ts)
+tally-collapsed p u v ts = tally-in_order p (map (λ t. turned (substituted u v t)) (kept_tris u v ts)) ∙ tally-put p u v (kept_tris u v ts)
 
 -- ---- after a collapse no edge comes twice
 -- what isn't renamed to v stays

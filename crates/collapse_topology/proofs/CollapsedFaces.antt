@@ -2,7 +2,7 @@
 use Rattle.face_rings.proofs.Faces.{Apart, Face_turn, and_not, has_turns, not_and, same_tri, turned-Turns, turns_has}
 use Rattle.face_rings.proofs.Members.{filter_from, filter_to, in_order_from, in_order_to, map_from, map_to}
 use Rattle.face_rings.specs.Faces.{Face, Turns, ◌∈◌}
-use Rattle.mesh_data.specs.Edits.{collapsed_tris, put_for, renamed}
+use Rattle.mesh_data.specs.Edits.{collapsed_tris, substituted, renamed}
 use Rattle.mesh_data.specs.Links.{has_both}
 use Rattle.mesh_data.specs.Triangles.{turned}
 use Rattle.mesh_data.specs.declared.geometry.Tri.{Tri}
@@ -20,11 +20,11 @@ renamed-other u v x n = ap (λ b. cond b v x) (ne_eqb x u n)
 
 -- the faces after a collapse are faces before it, without both names, with v for u
 pub collapsed-Face : (ts : List Tri) (u v a b c : ℕ) → Face (collapsed_tris u v ts) a b c
-    → (t : Tri) × (t ∈ ts) × (has_both u v t ≡ false) × Turns (turned (put_for u v t)) a b c
+    → (t : Tri) × (t ∈ ts) × (has_both u v t ≡ false) × Turns (turned (substituted u v t)) a b c
 unfolding collapsed_tris
 collapsed-Face ts u v a b c f =
     let i = in_order_from f.0 _ f.1 in
-    let m = map_from (λ t. turned (put_for u v t)) (filter (λ t. not (has_both u v t)) ts) f.0 i in
+    let m = map_from (λ t. turned (substituted u v t)) (filter (λ t. not (has_both u v t)) ts) f.0 i in
     let k = filter_from (λ t. not (has_both u v t)) ts m.0 m.1 in
     (m.0, k.0, not-true _ k.1, subst (λ (s : Tri). Turns s a b c) m.2 f.2)
 
@@ -33,7 +33,7 @@ pub Face-collapsed : (ts : List Tri) (u v : ℕ) (t : Tri) → t ∈ ts → has_
     → Face (collapsed_tris u v ts) (renamed u v t.a) (renamed u v t.b) (renamed u v t.c)
 unfolding collapsed_tris
 Face-collapsed ts u v t i n =
-    (turned (put_for u v t), in_order_to (turned (put_for u v t)) _ (map_to (λ t. turned (put_for u v t)) _ t (filter_to (λ s. not (has_both u v s)) ts t i (ap not n))), turned-Turns (put_for u v t))
+    (turned (substituted u v t), in_order_to (turned (substituted u v t)) _ (map_to (λ t. turned (substituted u v t)) _ t (filter_to (λ s. not (has_both u v s)) ts t i (ap not n))), turned-Turns (substituted u v t))
 
 -- what was renamed to a turn of three names is a turn of the renamed
 pull : (f : ℕ → ℕ) (t s : Tri) (a b c : ℕ) → Turns s (f t.a) (f t.b) (f t.c) → Turns s a b c
@@ -62,7 +62,7 @@ pub record Before (ts : List Tri) (u v a b c : ℕ) : Type 0 where
 pub face_before : (ts : List Tri) (u v a b c : ℕ) → Face (collapsed_tris u v ts) a b c → Before ts u v a b c
 face_before ts u v a b c f =
     let k = collapsed-Face ts u v a b c f in
-    let p = pull (renamed u v) k.0 (turned (put_for u v k.0)) a b c (turned-Turns (put_for u v k.0)) k.3 in
+    let p = pull (renamed u v) k.0 (turned (substituted u v k.0)) a b c (turned-Turns (substituted u v k.0)) k.3 in
     record {
       x = p.0;
       y = p.1;

@@ -10,12 +10,12 @@ use Rattle.face_rings.proofs.Fans.{distinct_in, fan_of, ring_of}
 use Rattle.face_rings.proofs.Members.{append_cases, append_left, append_right, map_from, steps_in}
 use Rattle.face_rings.proofs.Paths.{distinct_drop, distinct_insert, distinct_parts, ends_later, path}
 use Rattle.face_rings.proofs.Named.{Different, IsDistinct, Unique}
-use Rattle.face_rings.specs.Faces.{Face, IsFan, Step, ◌∈◌}
+use Rattle.face_rings.specs.Faces.{Face, IsFan, Leads, ◌∈◌}
 use Rattle.mesh_data.specs.RingChanges.{CollapsesEdges, CollapsesRings, Splices, along, first_name, last_name, round}
 use Rattle.mesh_data.specs.Edits.{collapsed_tris, renamed}
 use Rattle.mesh_data.specs.Links.{is_closed_by_three}
 use Rattle.mesh_data.specs.Manifold.{HasRing, IsRinged, is_corner}
-use Rattle.mesh_data.specs.Rings.{IsRing, closed_path, fewest_names, ring_path, steps}
+use Rattle.mesh_data.specs.Rings.{IsRing, closed_path, fewest_names, ring_path, path_edges}
 use Rattle.mesh_data.specs.declared.geometry.Edge.{Edge}
 use Rattle.mesh_data.specs.declared.geometry.Tri.{Tri}
 use Rattle.mesh_data.specs.declared.rings.Ring.{Ring}
@@ -27,7 +27,7 @@ use Rattle.triangle_lists.proofs.RingLaws.{ring}
 use Rattle.triangle_lists.proofs.Walks.{step}
 
 -- ---- the next name on a path is one
-next_one : (ts : List Tri) (w : ℕ) (xs : List ℕ) (x y z : ℕ) → Unique ts → IsFan ts w xs → Face ts w x y → Step x z (steps xs) → z ≡ y
+next_one : (ts : List Tri) (w : ℕ) (xs : List ℕ) (x y z : ℕ) → Unique ts → IsFan ts w xs → Face ts w x y → Leads x z (path_edges xs) → z ≡ y
 next_one ts w xs x y z one fan f i = one w x z y ((fan x z).1 i) f
 
 module _ (ts : List Tri) (u v r s : ℕ) (mid : List ℕ) (uv : u ≢ v) (d : Different ts) (one : Unique ts) (p : Pinched ts u v r s mid) where
@@ -54,11 +54,11 @@ module _ (ts : List Tri) (u v r s : ℕ) (mid : List ℕ) (uv : u ≢ v) (d : Di
       let dist = distinct_in names is.distinct in
       let parts = distinct_parts (a ++ r ∷ []) (u ∷ s ∷ q) (subst IsDistinct (sym (append_assoc a (r ∷ []) (u ∷ s ∷ q))) dist) in
       let r_front : r ∈ a ++ r ∷ [] = append_right r a (r ∷ []) (inl refl) in
-      absurd (last q parts.1.1 (λ i. parts.2 r r_front (inr (inr i))) (λ i. subst (λ es. Step s r es) (path a r u s q) ((fan s r).0 f)) parts.2)
+      absurd (last q parts.1.1 (λ i. parts.2 r r_front (inr (inr i))) (λ i. subst (λ es. Leads s r es) (path a r u s q) ((fan s r).0 f)) parts.2)
     where
-      last : (q : List ℕ) → IsDistinct (s ∷ q) → (r ∈ q → ⊥) → (Unit {0} → Step s r (steps (a ++ r ∷ []) ++ step r u ∷ step u s ∷ steps (s ∷ q))) → ((x : ℕ) → x ∈ a ++ r ∷ [] → x ∈ u ∷ s ∷ q → ⊥) → ⊥
+      last : (q : List ℕ) → IsDistinct (s ∷ q) → (r ∈ q → ⊥) → (Unit {0} → Leads s r (path_edges (a ++ r ∷ []) ++ step r u ∷ step u s ∷ path_edges (s ∷ q))) → ((x : ℕ) → x ∈ a ++ r ∷ [] → x ∈ u ∷ s ∷ q → ⊥) → ⊥
       last q ds away i apart =
-          elim (append_cases (step s r) (steps (a ++ r ∷ [])) (step r u ∷ step u s ∷ steps (s ∷ q)) (i tt)) [
+          elim (append_cases (step s r) (path_edges (a ++ r ∷ [])) (step r u ∷ step u s ∷ path_edges (s ∷ q)) (i tt)) [
             | inl j ↦ apart s (steps_in (a ++ r ∷ []) (step s r) j).0 (inr (inl refl))
             | inr (inl e) ↦ (d v s r f).1 (ap (λ (g : Edge). g.a) e)
             | inr (inr (inl e)) ↦ r_not_s ts u v r s mid d one p (ap (λ (g : Edge). g.b) e)
@@ -253,14 +253,14 @@ module _ (ts : List Tri) (u v r s : ℕ) (mid : List ℕ) (uv : u ≢ v) (d : Di
       by (y ∷ ys) fan = one u r x y f ((fan r y).1 (inr (inl refl)))
 
   -- the step to the last name
-  last_step : (n : ℕ) (m : List ℕ) → Step (last_name n m) s (steps (n ∷ m ++ s ∷ []))
+  last_step : (n : ℕ) (m : List ℕ) → Leads (last_name n m) s (path_edges (n ∷ m ++ s ∷ []))
   last_step n [] = inl refl
   last_step n (y ∷ ys) = inr (last_step y ys)
 
   -- the name before s round u
   prev_last : (y : ℕ) → Face ts u y s → y ≡ last_name r mid
   prev_last y f =
-      let g : Face ts u (last_name r mid) s = (fan_of ts u (ring true (v ∷ (r ∷ mid ++ s ∷ []))) p.around_u (last_name r mid) s).1 (subst (λ es. Step (last_name r mid) s es) (sym (loop v r s mid)) (inr (append_left (step (last_name r mid) s) (steps (r ∷ mid ++ s ∷ [])) (step s v ∷ []) (last_step r mid)))) in
+      let g : Face ts u (last_name r mid) s = (fan_of ts u (ring true (v ∷ (r ∷ mid ++ s ∷ []))) p.around_u (last_name r mid) s).1 (subst (λ es. Leads (last_name r mid) s es) (sym (loop v r s mid)) (inr (append_left (step (last_name r mid) s) (path_edges (r ∷ mid ++ s ∷ [])) (step s v ∷ []) (last_step r mid)))) in
       one s u y (last_name r mid) (Face_back ts u y s f) (Face_turn ts (last_name r mid) s u (Face_turn ts u (last_name r mid) s g))
 
   -- what the collapse makes of each ring
@@ -299,7 +299,7 @@ pub rings_met : (ts us : List Tri) (u v : ℕ) (c : CollapsesRings ts us u v) �
 rings_met ts us u v c ringed =
     let fan = fan_of ts u (ring true (v ∷ (c.r ∷ c.mid ++ c.s ∷ []))) c.of_u in
     let first : Face ts u v c.r = (fan v c.r).1 (inl refl) in
-    let last : Face ts u c.s v = (fan c.s v).1 (subst (λ es. Step c.s v es) (sym (loop v c.r c.s c.mid)) (inr (append_right (step c.s v) (steps (c.r ∷ c.mid ++ c.s ∷ [])) (step c.s v ∷ []) (inl refl)))) in (
+    let last : Face ts u c.s v = (fan c.s v).1 (subst (λ es. Leads c.s v es) (sym (loop v c.r c.s c.mid)) (inr (append_right (step c.s v) (path_edges (c.r ∷ c.mid ++ c.s ∷ [])) (step c.s v ∷ []) (inl refl)))) in (
       ringed v (face_corner ts v c.r u (Face_turn ts u v c.r first)),
       ringed c.r (face_corner ts c.r u v (Face_back ts u v c.r first)),
       ringed c.s (face_corner ts c.s v u (Face_turn ts u c.s v last)),

@@ -3,7 +3,7 @@ use Rattle.std.proofs.Common.{◌≡◌, ◌≢◌, ◌++◌, ℕ, ◌+◌, ◌*
 use Rattle.std.proofs.lemmas.Int.{ints}
 use Rattle.std.specs.Cmp.{nat_cmp_total, unsigned_tied}
 use Rattle.std.specs.FinMap as finite
-use Rattle.mesh_data.specs.declared.geometry.Point.{Point}
+use Rattle.oemm_octree.specs.declared.points.Point.{Point}
 use Rattle.mesh_data.specs.declared.geometry.Vertex.{Vertex}
 use Rattle.mesh_data.specs.Edits.{collapse_verdict, collapsed, is_done, planes_or_none}
 use Rattle.mesh_data.specs.Keeps.{Keeps}
@@ -14,7 +14,7 @@ use Rattle.triangle_edits.proofs.Results.{triangles_collapsed}
 use Rattle.edit_steps.proofs.EulerLaws.{euler2_of_manifold}
 use Rattle.edit_steps.proofs.Eulers.{same_euler}
 use Rattle.edit_steps.proofs.Passed.{collapse_passed}
-use Rattle.edit_steps.proofs.Thinned.{len-collapsed}
+use Rattle.edit_steps.proofs.Simplification.{len-collapsed}
 use Rattle.edit_steps.proofs.Tried.{held_there}
 use Rattle.edit_steps.proofs.Vertices.{changed, contains-changed}
 use Rattle.collapse_topology.proofs.Lists.{border_stays, oriented_collapsed, ringed_collapsed, rings_collapsed, two_fewer}

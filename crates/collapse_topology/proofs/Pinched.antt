@@ -8,9 +8,9 @@ use Rattle.face_rings.proofs.Fans.{distinct_in, fan_of, in_among}
 use Rattle.face_rings.proofs.Members.{append_left, append_right}
 use Rattle.face_rings.proofs.Paths.{last_of, next_of, prev_of}
 use Rattle.face_rings.proofs.Named.{Different, IsDistinct, Unique}
-use Rattle.face_rings.specs.Faces.{Face, Step, ◌∈◌}
-use Rattle.mesh_data.specs.Links.{apex, are_neighbours, least_shared}
-use Rattle.mesh_data.specs.Rings.{IsRing, closed_path, has_closed_ring, link, steps}
+use Rattle.face_rings.specs.Faces.{Face, Leads, ◌∈◌}
+use Rattle.mesh_data.specs.Links.{apex, are_neighbours, link_violation}
+use Rattle.mesh_data.specs.Rings.{IsRing, closed_path, has_closed_ring, link, path_edges}
 use Rattle.mesh_data.specs.declared.geometry.Tri.{Tri}
 use Rattle.mesh_data.specs.declared.rings.Ring.{Ring}
 use Rattle.std.proofs.Common.{Bool, List, None, [], arith, eq-eqb, eqb, eqb-true, false, inl, inr, refl, subst, sym, true, ℕ, ◌++◌, ◌||◌, ◌∷◌, ◌≡◌, ◌≢◌, ◌⊎◌}
@@ -32,7 +32,7 @@ pub record SomePinch (ts : List Tri) (u v : ℕ) : Type 0 where
   pub pinched : Pinched ts u v r s mid
 
 -- the first and the last name of the ring of u behind v, and those between them
-pinched_by : (ts : List Tri) (u v : ℕ) (ms : List ℕ) → Different ts → Unique ts → least_shared ts u v ≡ None → IsRing ts u (ring true (v ∷ ms)) → SomePinch ts u v
+pinched_by : (ts : List Tri) (u v : ℕ) (ms : List ℕ) → Different ts → Unique ts → link_violation ts u v ≡ None → IsRing ts u (ring true (v ∷ ms)) → SomePinch ts u v
 pinched_by ts u v [] d one unshared is = absurd (omega (arith, is.long))
 pinched_by ts u v (r ∷ []) d one unshared is = absurd (omega (arith, is.long))
 pinched_by ts u v (r ∷ z ∷ zs) d one unshared is' =
@@ -42,7 +42,7 @@ pinched_by ts u v (r ∷ z ∷ zs) d one unshared is' =
     let is : IsRing ts u (ring true (v ∷ (r ∷ mid ++ s ∷ []))) = subst (λ ns. IsRing ts u (ring true (v ∷ r ∷ ns))) l.2 is' in
     let fan = fan_of ts u (ring true (v ∷ (r ∷ mid ++ s ∷ []))) is in
     let first : Face ts u v r = (fan v r).1 (inl refl) in
-    let last : Face ts u s v = (fan s v).1 (subst (λ es. Step s v es) (sym (loop v r s mid)) (inr (append_right (step s v) (steps (r ∷ mid ++ s ∷ [])) (step s v ∷ []) (inl refl)))) in
+    let last : Face ts u s v = (fan s v).1 (subst (λ es. Leads s v es) (sym (loop v r s mid)) (inr (append_right (step s v) (path_edges (r ∷ mid ++ s ∷ [])) (step s v ∷ []) (inl refl)))) in
     let only : (w : ℕ) → Near ts u w → Near ts v w → (w ≡ r) ⊎ (w ≡ s) =
     λ w nu nv. elim (eqb w r) as (λ b. eqb w r ≡ b → (w ≡ r) ⊎ (w ≡ s)) [
       | true ↦ λ e. inl (eqb-true w r e)
@@ -57,7 +57,7 @@ pinched_by ts u v (r ∷ z ∷ zs) d one unshared is' =
     record { r = r; s = s; mid = mid; pinched = record { around_u = is; pinch = record { first = first; last = last; only = only } } }
 
 -- as the verdict knows them
-pub some_pinch : (ts : List Tri) (u v : ℕ) → u ≢ v → Different ts → Unique ts → are_neighbours ts u v ≡ true → has_closed_ring ts u ≡ true → least_shared ts u v ≡ None → SomePinch ts u v
+pub some_pinch : (ts : List Tri) (u v : ℕ) → u ≢ v → Different ts → Unique ts → are_neighbours ts u v ≡ true → has_closed_ring ts u ≡ true → link_violation ts u v ≡ None → SomePinch ts u v
 some_pinch ts u v apart d one near closed unshared =
     let found = found_by_going (link u ts) closed in
     let r = found.0 in

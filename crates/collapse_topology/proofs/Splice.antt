@@ -4,9 +4,9 @@ use Rattle.face_rings.proofs.Faces.{Apart, three}
 use Rattle.face_rings.proofs.Members.{append_cases, append_left, append_right, steps-append, steps_in}
 use Rattle.face_rings.proofs.Paths.{not_in, path, path_in}
 use Rattle.face_rings.proofs.Named.{Different}
-use Rattle.face_rings.specs.Faces.{Face, IsFan, Step, ◌∈◌}
+use Rattle.face_rings.specs.Faces.{Face, IsFan, Leads, ◌∈◌}
 use Rattle.mesh_data.specs.Edits.{collapsed_tris, renamed}
-use Rattle.mesh_data.specs.Rings.{closed_path, steps}
+use Rattle.mesh_data.specs.Rings.{closed_path, path_edges}
 use Rattle.mesh_data.specs.declared.geometry.Edge.{Edge}
 use Rattle.mesh_data.specs.declared.geometry.Tri.{Tri}
 use Rattle.std.proofs.Common.{List, [], ap, append_assoc, inl, inr, subst, sym, ℕ, ◌++◌, ◌∙◌, ◌∷◌, ◌≡◌, ◌≢◌, ◌⊎◌}
@@ -63,30 +63,30 @@ star_after ts u v x y d n (inr (f, nx, ny)) =
 
 -- ---- loops
 -- the steps round a closed path, from z on
-pub loop : (z a b : ℕ) (m : List ℕ) → steps (closed_path (z ∷ (a ∷ m ++ b ∷ []))) ≡ (step z a) ∷ (steps (a ∷ m ++ b ∷ []) ++ (step b z) ∷ [])
-loop z a b m = ap (λ l. (step z a) ∷ steps l) (append_assoc (a ∷ m) (b ∷ []) (z ∷ [])) ∙ ap (λ l. (step z a) ∷ l) (steps-append (a ∷ m) b (z ∷ []))
+pub loop : (z a b : ℕ) (m : List ℕ) → path_edges (closed_path (z ∷ (a ∷ m ++ b ∷ []))) ≡ (step z a) ∷ (path_edges (a ∷ m ++ b ∷ []) ++ (step b z) ∷ [])
+loop z a b m = ap (λ l. (step z a) ∷ path_edges l) (append_assoc (a ∷ m) (b ∷ []) (z ∷ [])) ∙ ap (λ l. (step z a) ∷ l) (steps-append (a ∷ m) b (z ∷ []))
 
 -- those without z, and back
-pub loop_in : (z a b : ℕ) (m : List ℕ) (x y : ℕ) → (step x y) ∈ steps (closed_path (z ∷ (a ∷ m ++ b ∷ []))) → x ≢ z → y ≢ z → (step x y) ∈ steps (a ∷ m ++ b ∷ [])
+pub loop_in : (z a b : ℕ) (m : List ℕ) (x y : ℕ) → (step x y) ∈ path_edges (closed_path (z ∷ (a ∷ m ++ b ∷ []))) → x ≢ z → y ≢ z → (step x y) ∈ path_edges (a ∷ m ++ b ∷ [])
 loop_in z a b m x y i nx ny =
     inner (subst (λ l. (step x y) ∈ l) (loop z a b m) i)
   where
-    last : Step x y ((step b z) ∷ []) → (step x y) ∈ steps (a ∷ m ++ b ∷ [])
+    last : Leads x y ((step b z) ∷ []) → (step x y) ∈ path_edges (a ∷ m ++ b ∷ [])
     last (inl e) = absurd (ny (ap (λ (p : Edge). p.b) e))
     last (inr j) = absurd j
 
-    inner : Step x y ((step z a) ∷ (steps (a ∷ m ++ b ∷ []) ++ (step b z) ∷ [])) → (step x y) ∈ steps (a ∷ m ++ b ∷ [])
+    inner : Leads x y ((step z a) ∷ (path_edges (a ∷ m ++ b ∷ []) ++ (step b z) ∷ [])) → (step x y) ∈ path_edges (a ∷ m ++ b ∷ [])
     inner (inl e) = absurd (nx (ap (λ (p : Edge). p.a) e))
-    inner (inr j) = elim (append_cases (step x y) (steps (a ∷ m ++ b ∷ [])) ((step b z) ∷ []) j) [ inl k ↦ k | inr k ↦ last k ]
+    inner (inr j) = elim (append_cases (step x y) (path_edges (a ∷ m ++ b ∷ [])) ((step b z) ∷ []) j) [ inl k ↦ k | inr k ↦ last k ]
 
-pub loop_out : (z a b : ℕ) (m : List ℕ) (x y : ℕ) → (step x y) ∈ steps (a ∷ m ++ b ∷ []) → (step x y) ∈ steps (closed_path (z ∷ (a ∷ m ++ b ∷ [])))
+pub loop_out : (z a b : ℕ) (m : List ℕ) (x y : ℕ) → (step x y) ∈ path_edges (a ∷ m ++ b ∷ []) → (step x y) ∈ path_edges (closed_path (z ∷ (a ∷ m ++ b ∷ [])))
 loop_out z a b m x y i =
-    subst (λ l. (step x y) ∈ l) (sym (loop z a b m)) (inr (append_left (step x y) (steps (a ∷ m ++ b ∷ [])) ((step b z) ∷ []) i))
+    subst (λ l. (step x y) ∈ l) (sym (loop z a b m)) (inr (append_left (step x y) (path_edges (a ∷ m ++ b ∷ [])) ((step b z) ∷ []) i))
 
 -- the steps of a path through r and s
-pub arc : (p : List ℕ) (r s : ℕ) (m q : List ℕ) → steps (p ++ r ∷ m ++ s ∷ q) ≡ steps (p ++ r ∷ []) ++ (steps (r ∷ m ++ s ∷ []) ++ steps (s ∷ q))
+pub arc : (p : List ℕ) (r s : ℕ) (m q : List ℕ) → path_edges (p ++ r ∷ m ++ s ∷ q) ≡ path_edges (p ++ r ∷ []) ++ (path_edges (r ∷ m ++ s ∷ []) ++ path_edges (s ∷ q))
 arc p r s m q =
-    ap steps (append_assoc p (r ∷ m) (s ∷ q)) ∙ steps-append p r (m ++ s ∷ q) ∙ ap (λ l. steps (p ++ r ∷ []) ++ l) (steps-append (r ∷ m) s q)
+    ap path_edges (append_assoc p (r ∷ m) (s ∷ q)) ∙ steps-append p r (m ++ s ∷ q) ∙ ap (λ l. path_edges (p ++ r ∷ []) ++ l) (steps-append (r ∷ m) s q)
 
 -- the ring of a border v
 pub splice_open : (ts : List Tri) (u v r s : ℕ) (mid p q : List ℕ) → Different ts → u ≢ v
@@ -95,28 +95,28 @@ pub splice_open : (ts : List Tri) (u v r s : ℕ) (mid p q : List ℕ) → Diffe
     → IsFan (collapsed_tris u v ts) v (p ++ r ∷ mid ++ s ∷ q)
 splice_open ts u v r s mid p q d n fu fv nv np nq x y = (to, from)
   where
-    to : Face (collapsed_tris u v ts) v x y → (step x y) ∈ steps (p ++ r ∷ mid ++ s ∷ q)
+    to : Face (collapsed_tris u v ts) v x y → (step x y) ∈ path_edges (p ++ r ∷ mid ++ s ∷ q)
     to f =
         subst (λ l. (step x y) ∈ l) (sym (arc p r s mid q)) (elim (star_before ts u v x y d f) [
           | inl (g, nx, ny) ↦ elim (path_in p r u s q x y ((fv x y).0 g) nx ny) [
-            | inl j ↦ append_left (step x y) (steps (p ++ r ∷ [])) _ j
-            | inr j ↦ append_right (step x y) (steps (p ++ r ∷ [])) _ (append_right (step x y) (steps (r ∷ mid ++ s ∷ [])) _ j)
+            | inl j ↦ append_left (step x y) (path_edges (p ++ r ∷ [])) _ j
+            | inr j ↦ append_right (step x y) (path_edges (p ++ r ∷ [])) _ (append_right (step x y) (path_edges (r ∷ mid ++ s ∷ [])) _ j)
           ]
-          | inr (g, nx, ny) ↦ append_right (step x y) (steps (p ++ r ∷ [])) _ (append_left (step x y) (steps (r ∷ mid ++ s ∷ [])) (steps (s ∷ q)) (loop_in v r s mid x y ((fu x y).0 g) nx ny))
+          | inr (g, nx, ny) ↦ append_right (step x y) (path_edges (p ++ r ∷ [])) _ (append_left (step x y) (path_edges (r ∷ mid ++ s ∷ [])) (path_edges (s ∷ q)) (loop_in v r s mid x y ((fu x y).0 g) nx ny))
         ])
 
-    old : Step x y (steps (p ++ r ∷ u ∷ s ∷ q)) → (x ≢ u) × (y ≢ u) → Face (collapsed_tris u v ts) v x y
+    old : Leads x y (path_edges (p ++ r ∷ u ∷ s ∷ q)) → (x ≢ u) × (y ≢ u) → Face (collapsed_tris u v ts) v x y
     old j (a, b) = star_after ts u v x y d n (inl ((fv x y).1 j, a, b))
 
-    from : (step x y) ∈ steps (p ++ r ∷ mid ++ s ∷ q) → Face (collapsed_tris u v ts) v x y
+    from : (step x y) ∈ path_edges (p ++ r ∷ mid ++ s ∷ q) → Face (collapsed_tris u v ts) v x y
     from i =
-        elim (append_cases (step x y) (steps (p ++ r ∷ [])) (steps (r ∷ mid ++ s ∷ []) ++ steps (s ∷ q)) (subst (λ l. (step x y) ∈ l) (arc p r s mid q) i)) [
+        elim (append_cases (step x y) (path_edges (p ++ r ∷ [])) (path_edges (r ∷ mid ++ s ∷ []) ++ path_edges (s ∷ q)) (subst (λ l. (step x y) ∈ l) (arc p r s mid q) i)) [
           | inl j ↦ let k = steps_in (p ++ r ∷ []) (step x y) j in
-              old (subst (λ l. (step x y) ∈ l) (sym (path p r u s q)) (append_left (step x y) (steps (p ++ r ∷ [])) ((step r u) ∷ (step u s) ∷ steps (s ∷ q)) j)) (not_in u x (p ++ r ∷ []) np k.0, not_in u y (p ++ r ∷ []) np k.1)
-          | inr j ↦ elim (append_cases (step x y) (steps (r ∷ mid ++ s ∷ [])) (steps (s ∷ q)) j) [
+              old (subst (λ l. (step x y) ∈ l) (sym (path p r u s q)) (append_left (step x y) (path_edges (p ++ r ∷ [])) ((step r u) ∷ (step u s) ∷ path_edges (s ∷ q)) j)) (not_in u x (p ++ r ∷ []) np k.0, not_in u y (p ++ r ∷ []) np k.1)
+          | inr j ↦ elim (append_cases (step x y) (path_edges (r ∷ mid ++ s ∷ [])) (path_edges (s ∷ q)) j) [
             | inl h ↦ let k = steps_in (r ∷ mid ++ s ∷ []) (step x y) h in
                 star_after ts u v x y d n (inr ((fu x y).1 (loop_out v r s mid x y h), not_in v x (r ∷ mid ++ s ∷ []) nv k.0, not_in v y (r ∷ mid ++ s ∷ []) nv k.1))
             | inr h ↦ let k = steps_in (s ∷ q) (step x y) h in
-                old (subst (λ l. (step x y) ∈ l) (sym (path p r u s q)) (append_right (step x y) (steps (p ++ r ∷ [])) ((step r u) ∷ (step u s) ∷ steps (s ∷ q)) (inr (inr h)))) (not_in u x (s ∷ q) nq k.0, not_in u y (s ∷ q) nq k.1)
+                old (subst (λ l. (step x y) ∈ l) (sym (path p r u s q)) (append_right (step x y) (path_edges (p ++ r ∷ [])) ((step r u) ∷ (step u s) ∷ path_edges (s ∷ q)) (inr (inr h)))) (not_in u x (s ∷ q) nq k.0, not_in u y (s ∷ q) nq k.1)
           ]
         ]

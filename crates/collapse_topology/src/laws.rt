@@ -1,7 +1,7 @@
 //! What a collapse keeps, and what it makes of rings and of directed edges.
 
 ghost use Rattle.std.specs.Prelude.{◌≡◌, ◌≢◌, ◌+◌, ℕ, ℤ, Bool, List, length, true};
-ghost use Rattle.mesh_data.specs.declared.geometry.Point.{Point};
+ghost use Rattle.oemm_octree.specs.declared.points.Point.{Point};
 ghost use Rattle.mesh_data.specs.declared.geometry.Tri.{Tri};
 ghost use Rattle.mesh_data.specs.Edits.{collapse_verdict, collapsed, collapsed_tris, is_done};
 ghost use Rattle.mesh_data.specs.Keeps.{Keeps};
@@ -30,8 +30,8 @@ pub fn collapse_list_laws()
         → HasRing ts v × HasRing ts changes.r × HasRing ts changes.s }
 {}
 
-/// A collapse that is done is one that the triangles allow. On a manifold it keeps the manifold, its Euler characteristic
-/// and its border, and this becomes of the directed edges and of each ring.
+/// A collapse that is done is one that the triangles allow. On a manifold it keeps the manifold, its Euler
+/// characteristic and its border, and this becomes of the directed edges and of each ring.
 pub fn collapse_mesh_laws()
     ensures allowed { (inside : Point → Bool) (m : Mesh) (u v : ℕ) (most : ℤ)
         → is_done (collapse_verdict inside m u v most) ≡ true → MayCollapse m.tris u v }

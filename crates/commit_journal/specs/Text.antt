@@ -2,7 +2,7 @@
 use Rattle.std.specs.Prelude.{ℕ, ◌+◌, List, [], ◌∷◌, ◌++◌, map, codes, if◌then◌else◌, Option, Some, None}
 use Rattle.std.specs.List.{flat_map}
 use Rattle.std.specs.Fmt.{decimal, signed_decimal}
-use Rattle.mesh_data.specs.Texts.{line}
+use Rattle.oemm_lists.specs.TextLine.{line}
 use Rattle.mesh_data.specs.declared.edits.Edit.{Edit}
 use Rattle.mesh_data.specs.declared.edits.Edit.TheVariants.{Move, Collapse, Flip, Simplify}
 use Rattle.mesh_data.specs.declared.edits.Step.{Step}

@@ -2,7 +2,8 @@
 
 ghost use Rattle.std.specs.Prelude.{◌≡◌, ◌==◌, IfOk, filter};
 
-use mesh_data::{Copied, Entries, Lane};
+use mesh_data::{Entries, Lane};
+use oemm_lists::Copied;
 use std::alloc::{AllocError, Global};
 
 /// The entries of a lane, in their order.

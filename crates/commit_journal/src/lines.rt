@@ -29,7 +29,8 @@ fn put_steps(text: &mut String, steps: &[Step]) -> Result<(), AllocError>
 }
 
 fn put_simplified(text: &mut String, steps: &[Step], left: u32) -> Result<(), AllocError>
-    ensures { OnOk result (string_bytes text.new ≡ string_bytes text.old ++ indented (reply_lines (Reply.Simplified steps.now left))) }
+    ensures { OnOk result
+        (string_bytes text.new ≡ string_bytes text.old ++ indented (reply_lines (Reply.Simplified steps.now left))) }
 {
     put_steps(text, steps)?;
     write!(text, "  simplified {left}\n")
@@ -57,7 +58,8 @@ fn put_reply(text: &mut String, reply: &Reply) -> Result<(), AllocError>
 }
 
 fn put_answered(text: &mut String, edit: &Edit, reply: Option<&Reply>) -> Result<(), AllocError>
-    ensures { OnOk result (string_bytes text.new ≡ string_bytes text.old ++ answered_edit edit.now (option_copied reply.entry)) }
+    ensures { OnOk result
+        (string_bytes text.new ≡ string_bytes text.old ++ answered_edit edit.now (option_copied reply.entry)) }
 {
     put_edit(text, edit)?;
     if let Some(reply) = reply {

@@ -1,7 +1,6 @@
 use crate::{journal_text, lane_part, line_text};
-use mesh_data::{
-    Edit, Edits, Entries, Entry, Lane, LeafSet, Name, Point, Replies, Reply, Step, Steps, Task, Tri,
-};
+use mesh_data::{Edit, Edits, Entries, Entry, Lane, Name, Replies, Reply, Step, Steps, Task, Tri};
+use oemm_octree::{LeafSet, Point};
 use std::alloc::{AllocError, Global};
 use std::test::Fail;
 

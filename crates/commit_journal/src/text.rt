@@ -5,7 +5,8 @@ ghost use Rattle.std.specs.String.{string_bytes};
 ghost use Rattle.commit_journal.specs.Text.{entry_text, journal_text};
 
 use crate::lines::{put_edits, put_head};
-use mesh_data::{Bytes, Entries, Entry};
+use mesh_data::{Entries, Entry};
+use oemm_lists::Bytes;
 use std::alloc::{AllocError, Global};
 
 fn put_entry(text: &mut String, number: u32, entry: &Entry) -> Result<(), AllocError>

@@ -8,12 +8,12 @@ use Rattle.std.specs.FinMap as finite
 use Rattle.std.specs.List.{list_any, filter}
 use Rattle.std.specs.List.Sorted.{IsSorted}
 use Rattle.std.specs.Option.{option_map, option_map_or}
-use Rattle.mesh_data.specs.Ascending.{in_order}
-use Rattle.mesh_data.specs.declared.geometry.Point.{Point}
+use Rattle.oemm_lists.specs.Ascending.{in_order}
+use Rattle.oemm_octree.specs.declared.points.Point.{Point}
 use Rattle.mesh_data.specs.declared.geometry.Vertex.{Vertex}
 use Rattle.mesh_data.specs.declared.geometry.Tri.{Tri}
 use Rattle.mesh_data.specs.declared.planes.Plane.{Plane}
-use Rattle.mesh_data.specs.Edits.{is_held, planes_or_none, point_or_origin, renamed, put_for, collapsed_tris, collapsed, collapse_verdict, cost}
+use Rattle.mesh_data.specs.Edits.{is_held, planes_or_none, point_or_origin, renamed, substituted, collapsed_tris, collapsed, collapse_verdict, cost}
 use Rattle.mesh_data.specs.Links.{has_both, are_neighbours}
 use Rattle.mesh_data.specs.Mesh.{Mesh, origin, with_vertex}
 use Rattle.mesh_data.specs.Planes.{squares}
@@ -86,19 +86,19 @@ renamed_is u v w x xu xv =
       | false ↦ λ _. refl
     ] refl
 
-has-put : (u v x : ℕ) (t : Tri) → x ≢ u → x ≢ v → has_corner x (turned (put_for u v t)) ≡ has_corner x t
-has-put u v x t xu xv = has-turned x (put_for u v t) ∙ (λ i. (renamed_is u v t.a x xu xv i || renamed_is u v t.b x xu xv i) || renamed_is u v t.c x xu xv i)
+has-put : (u v x : ℕ) (t : Tri) → x ≢ u → x ≢ v → has_corner x (turned (substituted u v t)) ≡ has_corner x t
+has-put u v x t xu xv = has-turned x (substituted u v t) ∙ (λ i. (renamed_is u v t.a x xu xv i || renamed_is u v t.b x xu xv i) || renamed_is u v t.c x xu xv i)
 
-pub put-away : (u v : ℕ) (t : Tri) → has_corner u t ≡ false → put_for u v t ≡ t
+pub put-away : (u v : ℕ) (t : Tri) → has_corner u t ≡ false → substituted u v t ≡ t
 put-away u v t away =
     let parts = apart_from u t away in
     λ i. record { a = cond (parts.0 i) v t.a; b = cond (parts.1 i) v t.b; c = cond (parts.2 i) v t.c }
 
-star_kept : (u v x : ℕ) (ts : List Tri) → among x (beside u ts) ≡ false → AreTurned ts → map (λ t. turned (put_for u v t)) (filter (λ t. not (has_both u v t)) (star x ts)) ≡ star x ts
+star_kept : (u v x : ℕ) (ts : List Tri) → among x (beside u ts) ≡ false → AreTurned ts → map (λ t. turned (substituted u v t)) (filter (λ t. not (has_both u v t)) (star x ts)) ≡ star x ts
 star_kept u v x [] away turn = refl
 star_kept u v x (t ∷ ts) away turn =
     let kept : Tri → Bool = λ t. not (has_both u v t) in
-    let put : Tri → Tri = λ t. turned (put_for u v t) in
+    let put : Tri → Tri = λ t. turned (substituted u v t) in
     let behind : among x (beside u ts) ≡ false = elim (has_corner u t) as (λ b. among x (flat_map corners (cond b (t ∷ star u ts) (star u ts))) ≡ false → among x (beside u ts) ≡ false) [
       | true ↦ λ h. false_from_ne_true _ (λ on. false≢true (sym h ∙ list_any-append (λ n. eqb n x) (corners t) (beside u ts) ∙ or_right (among x (corners t)) _ on))
       | false ↦ λ h. h
@@ -117,7 +117,7 @@ pub star-collapsed : (u v x : ℕ) (ts : List Tri) → x ≢ u → x ≢ v → a
 unfolding collapsed_tris
 star-collapsed u v x ts xu xv away turn up =
     let kept : Tri → Bool = λ t. not (has_both u v t) in
-    let put : Tri → Tri = λ t. turned (put_for u v t) in
+    let put : Tri → Tri = λ t. turned (substituted u v t) in
     let sorted : ts ≡ in_order tri_cmp ts = in_order_from_sort tri_cmp_total tri_cmp-IsAntisymmetric ts ts (IsPermutation-refl ts) up in
     filter-in_order tri_cmp_total (has_corner x) (map put (filter kept ts))
     ∙ ap (in_order tri_cmp) (filter-map (has_corner x) put (filter kept ts) ∙ ap (map put) (filter_agree (λ t. has_corner x (put t)) (has_corner x) (λ t. has-put u v x t xu xv) (filter kept ts) ∙ filter-swap (has_corner x) kept ts) ∙ star_kept u v x ts away turn)

@@ -5,12 +5,12 @@ use Rattle.std.proofs.lemmas.Cmp.{tied_itself}
 use Rattle.std.specs.List.{list_all, Contains}
 use Rattle.std.specs.List.Sorted.{IsSorted}
 use Rattle.std.specs.Ordering.{is_le}
-use Rattle.mesh_data.specs.declared.geometry.Point.{Point}
+use Rattle.oemm_octree.specs.declared.points.Point.{Point}
 use Rattle.mesh_data.specs.declared.geometry.Tri.{Tri}
 use Rattle.mesh_data.specs.declared.edits.Reply.{Reply}
 use Rattle.mesh_data.specs.declared.edits.Reply.TheVariants.{Link, Folds, Dear, DoneAt}
 use Rattle.mesh_data.specs.Edits.{first_line, if_any, pair_lines, folds_with, cost, collapse_verdict}
-use Rattle.mesh_data.specs.Links.{least_shared}
+use Rattle.mesh_data.specs.Links.{link_violation}
 use Rattle.mesh_data.specs.Mesh.{Mesh}
 use Rattle.mesh_data.specs.Triangles.{tri_cmp}
 use Rattle.triangle_lists.proofs.Orders.{tri_cmp_total}
@@ -43,7 +43,7 @@ link_is_no_price (Some w) = refl
 
 priced : (inside : Point → Bool) (m : Mesh) (u v : ℕ) (most : ℤ) → is_price (collapse_verdict inside m u v most) ≡ true → collapse_verdict inside m u v most ≡ first_line (price_lines m u v most) (DoneAt (cost m u v))
 priced inside m u v most is =
-    let none = link_is_no_price (least_shared m.tris u v) in
+    let none = link_is_no_price (link_violation m.tris u v) in
     told_behind is_price (pair_lines inside m u v ++ link_lines m u v) (price_lines m u v most) (DoneAt (cost m u v)) (λ i. none i && true) is
 
 -- the triangle that a reply names as folding

@@ -3,7 +3,7 @@ use Rattle.std.proofs.Common.{◌≡◌, ℕ, ℤ, int_le, Bool, true, false, co
 use Rattle.std.proofs.lemmas.Bool.{false≢true, and_parts, or_cases, or_left, or_right, eqb-true, eq-eqb, not-false}
 use Rattle.std.proofs.lemmas.List.Folds.{list_any-append}
 use Rattle.std.specs.List.{list_all, filter}
-use Rattle.mesh_data.specs.declared.geometry.Point.{Point}
+use Rattle.oemm_octree.specs.declared.points.Point.{Point}
 use Rattle.mesh_data.specs.declared.geometry.Tri.{Tri}
 use Rattle.mesh_data.specs.declared.edits.Reply.{Reply}
 use Rattle.mesh_data.specs.declared.edits.Reply.TheVariants.{Link, Folds, Dear, DoneAt, Done, Unheld, Frozen, Outside}

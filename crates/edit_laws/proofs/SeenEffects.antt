@@ -8,11 +8,11 @@ use Rattle.std.specs.FinMap.{nat_cmp-IsAntisymmetric}
 use Rattle.std.specs.List.{list_any, filter}
 use Rattle.std.specs.Option.{option_map, option_map_or}
 use Rattle.std.specs.Ordering.{nat_cmp}
-use Rattle.mesh_data.specs.Ascending.{in_order}
-use Rattle.mesh_data.specs.declared.geometry.Point.{Point}
+use Rattle.oemm_lists.specs.Ascending.{in_order}
+use Rattle.oemm_octree.specs.declared.points.Point.{Point}
 use Rattle.mesh_data.specs.declared.geometry.Vertex.{Vertex}
 use Rattle.mesh_data.specs.declared.geometry.Tri.{Tri}
-use Rattle.mesh_data.specs.Edits.{is_held, planes_or_none, renamed, put_for, moved, collapsed_tris, collapsed, flipped_tris, flipped}
+use Rattle.mesh_data.specs.Edits.{is_held, planes_or_none, renamed, substituted, moved, collapsed_tris, collapsed, flipped_tris, flipped}
 use Rattle.mesh_data.specs.Links.{has_both, opposites}
 use Rattle.mesh_data.specs.Mesh.{Mesh, with_vertex}
 use Rattle.mesh_data.specs.Triangles.{corners, turned, tri_cmp}
@@ -167,16 +167,16 @@ held_renamed inside m u v w apart hu hv =
       | false ↦ λ e. ap (λ (b : Bool). cond b false (is_held inside m w)) e
     ] refl
 
-touches_collapsed : (inside : Point → Bool) (m : Mesh) (u v : ℕ) → u ≢ v → is_held inside m u ≡ true → is_held inside m v ≡ true → (t : Tri) → touches inside (collapsed m u v) (turned (put_for u v t)) ≡ touches inside m t
+touches_collapsed : (inside : Point → Bool) (m : Mesh) (u v : ℕ) → u ≢ v → is_held inside m u ≡ true → is_held inside m v ≡ true → (t : Tri) → touches inside (collapsed m u v) (turned (substituted u v t)) ≡ touches inside m t
 touches_collapsed inside m u v apart hu hv t =
-    any-turned (is_held inside (collapsed m u v)) (put_for u v t)
+    any-turned (is_held inside (collapsed m u v)) (substituted u v t)
     ∙ (λ i. held_renamed inside m u v t.a apart hu hv i || (held_renamed inside m u v t.b apart hu hv i || (held_renamed inside m u v t.c apart hu hv i || false)))
 
-seen-collapsed_tris : (ts : List Tri) (u v : ℕ) (old new : Tri → Bool) → ((t : Tri) → new (turned (put_for u v t)) ≡ old t) → filter new (collapsed_tris u v ts) ≡ collapsed_tris u v (filter old ts)
+seen-collapsed_tris : (ts : List Tri) (u v : ℕ) (old new : Tri → Bool) → ((t : Tri) → new (turned (substituted u v t)) ≡ old t) → filter new (collapsed_tris u v ts) ≡ collapsed_tris u v (filter old ts)
 unfolding collapsed_tris
 seen-collapsed_tris ts u v old new same =
     let kept : Tri → Bool = λ t. not (has_both u v t) in
-    let put : Tri → Tri = λ t. turned (put_for u v t) in
+    let put : Tri → Tri = λ t. turned (substituted u v t) in
     filter-in_order tri_cmp_total new (map put (filter kept ts))
     ∙ ap (in_order tri_cmp) (filter-map new put (filter kept ts) ∙ ap (map put) (filter_agree (λ t. new (put t)) old same (filter kept ts) ∙ filter-swap old kept ts))
 

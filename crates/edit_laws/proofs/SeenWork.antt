@@ -3,21 +3,21 @@ use Rattle.std.proofs.Common.{◌≡◌, ℕ, zero, suc, ◌+◌, ◌≤◌, ◌
 use Rattle.std.proofs.lemmas.Bool.{false≢true, leb-true, leb-false, and_parts, or_left}
 use Rattle.std.specs.FinMap as finite
 use Rattle.std.specs.List.{list_any, list_all, filter}
-use Rattle.mesh_data.specs.declared.geometry.Point.{Point}
+use Rattle.oemm_octree.specs.declared.points.Point.{Point}
 use Rattle.mesh_data.specs.declared.geometry.Tri.{Tri}
 use Rattle.mesh_data.specs.declared.edits.Edit.{Edit}
 use Rattle.mesh_data.specs.declared.edits.Edit.TheVariants.{Move, Collapse, Flip, Simplify}
 use Rattle.mesh_data.specs.declared.edits.Step.{Step}
 use Rattle.mesh_data.specs.declared.edits.Reply.{Reply}
 use Rattle.mesh_data.specs.declared.edits.Reply.TheVariants.{Simplified}
-use Rattle.mesh_data.specs.Edits.{is_held, collapsed, collapsed_by, collapse_verdict, done_steps, least_step, whole_count, Thinned, simplified, verdict, after, is_done, moved, flipped, move_verdict, flip_verdict}
+use Rattle.mesh_data.specs.Edits.{is_held, collapsed, collapsed_by, collapse_verdict, done_steps, least_step, whole_count, Simplification, simplified, verdict, after, is_done, moved, flipped, move_verdict, flip_verdict}
 use Rattle.mesh_data.specs.Mesh.{Mesh}
 use Rattle.mesh_data.specs.Triangles.{corners}
 use Rattle.mesh_data.specs.Work.{work}
 use Rattle.triangle_lists.proofs.Counts.{one_if, often, often_is}
 use Rattle.edit_steps.proofs.Steps.{IsDoneStep, one_least, least_of_same}
 use Rattle.edit_steps.proofs.Tried.{held_there, least_done}
-use Rattle.edit_steps.proofs.Thinned.{made_of_all, least_leads, len-collapsed, one_step, reached, stuck}
+use Rattle.edit_steps.proofs.Simplification.{made_of_all, least_leads, len-collapsed, one_step, reached, stuck}
 use Rattle.edit_steps.specs.Steps.{answer_of}
 use Rattle.mesh_data.specs.Seen.{touches, seen, seen_worked}
 use Rattle.edit_laws.proofs.SeenVerdicts.{held-seen, collapse_seen, move_seen, flip_seen}
@@ -57,44 +57,44 @@ least-seen inside m most =
     (λ s h. collapse_seen inside m s.u s.v most ∙ h) (λ s h. sym (collapse_seen inside m s.u s.v most) ∙ h) (least_done inside n most))
 
 -- ---- simplifications
-abbrev pub seen_thinned : (Point → Bool) → Thinned → Thinned
-seen_thinned inside t = record { mesh = seen inside t.mesh; steps = t.steps }
+abbrev pub seen_steps : (Point → Bool) → Simplification → Simplification
+seen_steps inside t = record { mesh = seen inside t.mesh; steps = t.steps }
 
 -- where it is so after each step, it is so
 seen_step : (inside : Point → Bool) (m : Mesh) (most : ℤ) (target : ℕ)
-    → ((s : Step) → finite.len (collapsed m s.u s.v).vertices + 1 ≡ finite.len m.vertices → simplified inside (seen inside (collapsed m s.u s.v)) most target ≡ seen_thinned inside (simplified inside (collapsed m s.u s.v) most target))
-    → simplified inside (seen inside m) most target ≡ seen_thinned inside (simplified inside m most target)
+    → ((s : Step) → finite.len (collapsed m s.u s.v).vertices + 1 ≡ finite.len m.vertices → simplified inside (seen inside (collapsed m s.u s.v)) most target ≡ seen_steps inside (simplified inside (collapsed m s.u s.v) most target))
+    → simplified inside (seen inside m) most target ≡ seen_steps inside (simplified inside m most target)
 seen_step inside m most target later =
     let k = seen inside m in
-    elim (nat_le (whole_count inside m) target) as (λ b. nat_le (whole_count inside m) target ≡ b → simplified inside k most target ≡ seen_thinned inside (simplified inside m most target)) [
+    elim (nat_le (whole_count inside m) target) as (λ b. nat_le (whole_count inside m) target ≡ b → simplified inside k most target ≡ seen_steps inside (simplified inside m most target)) [
       | true ↦ λ at.
           let low = leb-true (whole_count inside m) target at in
           reached (finite.len k.vertices) inside k most target (subst (λ (c : ℕ). c ≤ target) (whole-seen inside m) low)
-          ∙ ap (seen_thinned inside) (sym (reached (finite.len m.vertices) inside m most target low))
+          ∙ ap (seen_steps inside) (sym (reached (finite.len m.vertices) inside m most target low))
       | false ↦ λ above.
           let high = leb-false (whole_count inside m) target above in
           let high' : target < whole_count inside k = subst (λ (c : ℕ). target < c) (whole-seen inside m) high in
-          elim (least_step (done_steps inside m most)) as (λ o. least_step (done_steps inside m most) ≡ o → simplified inside k most target ≡ seen_thinned inside (simplified inside m most target)) [
+          elim (least_step (done_steps inside m most)) as (λ o. least_step (done_steps inside m most) ≡ o → simplified inside k most target ≡ seen_steps inside (simplified inside m most target)) [
             | None ↦ λ is.
                 stuck (finite.len k.vertices) inside k most target (sym (least-seen inside m most) ∙ is)
-                ∙ ap (seen_thinned inside) (sym (stuck (finite.len m.vertices) inside m most target is))
+                ∙ ap (seen_steps inside) (sym (stuck (finite.len m.vertices) inside m most target is))
             | Some s ↦ λ is.
                 let leads = least_leads inside m most s is in
                 let can = can_collapse inside m s.u s.v most s.cost leads.0 in
-                let rest : simplified inside (collapsed k s.u s.v) most target ≡ seen_thinned inside (simplified inside (collapsed m s.u s.v) most target) =
+                let rest : simplified inside (collapsed k s.u s.v) most target ≡ seen_steps inside (simplified inside (collapsed m s.u s.v) most target) =
                 ap (λ (j : Mesh). simplified inside j most target) (sym (seen_collapsed inside m s.u s.v can.pair.apart can.pair.held can.pair.onto_held)) ∙ later s (len-collapsed m s.u s.v (held_there inside m s.u can.pair.held)) in
                 one_step inside k most target s high' (sym (least-seen inside m most) ∙ is)
-                ∙ ap (λ (t : Thinned). let r : Thinned = record { mesh = t.mesh; steps = s ∷ t.steps } in r) rest
-                ∙ ap (seen_thinned inside) (sym (one_step inside m most target s high is))
+                ∙ ap (λ (t : Simplification). let r : Simplification = record { mesh = t.mesh; steps = s ∷ t.steps } in r) rest
+                ∙ ap (seen_steps inside) (sym (one_step inside m most target s high is))
           ] refl
     ] refl
 
-seen_more : (n : ℕ) (inside : Point → Bool) (m : Mesh) (most : ℤ) (target : ℕ) → finite.len m.vertices ≤ n → simplified inside (seen inside m) most target ≡ seen_thinned inside (simplified inside m most target)
+seen_more : (n : ℕ) (inside : Point → Bool) (m : Mesh) (most : ℤ) (target : ℕ) → finite.len m.vertices ≤ n → simplified inside (seen inside m) most target ≡ seen_steps inside (simplified inside m most target)
 seen_more zero inside m most target few = seen_step inside m most target (λ s one. absurd (omega (arith, few, one)))
 seen_more (suc n) inside m most target few = seen_step inside m most target (λ s one. seen_more n inside (collapsed m s.u s.v) most target (omega (arith, few, one)))
 
 -- what an area sees of a simplified mesh is what is made of what it sees, in the same steps
-pub seen_simplified : (inside : Point → Bool) (m : Mesh) (most : ℤ) (target : ℕ) → simplified inside (seen inside m) most target ≡ seen_thinned inside (simplified inside m most target)
+pub seen_simplified : (inside : Point → Bool) (m : Mesh) (most : ℤ) (target : ℕ) → simplified inside (seen inside m) most target ≡ seen_steps inside (simplified inside m most target)
 seen_simplified inside m most target = seen_more (finite.len m.vertices) inside m most target (omega arith)
 
 -- ---- one edit
@@ -105,7 +105,7 @@ verdict_seen inside m (Flip a b) = sym (flip_seen inside m a b)
 verdict_seen inside m (Simplify most target) =
     let same = seen_simplified inside m most target in
     let left : whole_count inside (simplified inside (seen inside m) most target).mesh ≡ whole_count inside (simplified inside m most target).mesh =
-    ap (λ (t : Thinned). whole_count inside t.mesh) same ∙ sym (whole-seen inside (simplified inside m most target).mesh) in
+    ap (λ (t : Simplification). whole_count inside t.mesh) same ∙ sym (whole-seen inside (simplified inside m most target).mesh) in
     λ i. Simplified (same i).steps (left i)
 
 -- where a done edit is seen as the edit of what is seen, so is an edit
@@ -122,9 +122,9 @@ after_seen inside m (Flip a b) =
     after_by inside m (flip_verdict inside m a b) (flipped m a b) (flipped (seen inside m) a b) (λ done. let p = (flip_passed inside m a b done).pair in sym (seen_flipped inside m a b p.held p.onto_held))
 after_seen inside m (Simplify most target) =
     let same = seen_simplified inside m most target in
-    ap (λ (t : Thinned). collapsed_by (seen inside m) t.steps) (sym same)
+    ap (λ (t : Simplification). collapsed_by (seen inside m) t.steps) (sym same)
     ∙ made_of_all inside (seen inside m) most target
-    ∙ ap (λ (t : Thinned). t.mesh) same
+    ∙ ap (λ (t : Simplification). t.mesh) same
     ∙ ap (seen inside) (sym (made_of_all inside m most target))
 
 -- ---- edits in a row

@@ -5,9 +5,9 @@ use Rattle.std.proofs.lemmas.Map.Views.{any-filter_same}
 use Rattle.std.specs.List.{list_any, filter, flat_map}
 use Rattle.std.specs.Option.{option_or}
 use Rattle.std.specs.Ordering.{nat_cmp}
-use Rattle.mesh_data.specs.Ascending.{in_order}
+use Rattle.oemm_lists.specs.Ascending.{in_order}
 use Rattle.mesh_data.specs.declared.geometry.Tri.{Tri}
-use Rattle.mesh_data.specs.Links.{has_both, are_neighbours, apex, is_name, least_shared, is_closed_by_three, names_along}
+use Rattle.mesh_data.specs.Links.{has_both, are_neighbours, apex, is_name, link_violation, is_closed_by_three, names_along}
 use Rattle.mesh_data.specs.Rings.{link, from_each_corner, has_closed_ring, go_round}
 use Rattle.mesh_data.specs.Triangles.{corners, has_corner, star, neighbours}
 use Rattle.triangle_edits.specs.Links.{apex_in}
@@ -72,8 +72,8 @@ pub near_alike : (ts us : List Tri) (u v : ℕ) → star u ts ≡ star u us → 
 near_alike ts us u v same = sym (near-star ts u v) ∙ ap (λ ss. are_neighbours ss u v) same ∙ near-star us u v
 
 -- ---- shared names, rings of three
-pub shared_alike : (ts us : List Tri) (u v : ℕ) → star u ts ≡ star u us → star v ts ≡ star v us → least_shared ts u v ≡ least_shared us u v
-unfolding least_shared
+pub shared_alike : (ts us : List Tri) (u v : ℕ) → star u ts ≡ star u us → star v ts ≡ star v us → link_violation ts u v ≡ link_violation us u v
+unfolding link_violation
 shared_alike ts us u v of_u of_v =
     λ i. find (λ w. list_any (λ x. eqb x w) (neighbours_alike v ts us of_v i) && not (is_name (apex_alike ts us u v of_u i) w || is_name (apex_alike ts us v u of_v i) w)) (in_order nat_cmp (neighbours_alike u ts us of_u i))
 

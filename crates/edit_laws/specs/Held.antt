@@ -1,6 +1,6 @@
 -- Held vertices, and moves, by the points of a mesh.
 use Rattle.std.specs.Prelude.{◌≡◌, ◌≢◌, ℕ, Bool, true, Some}
-use Rattle.mesh_data.specs.declared.geometry.Point.{Point}
+use Rattle.oemm_octree.specs.declared.points.Point.{Point}
 use Rattle.mesh_data.specs.Mesh.{Mesh, point_of, planes_of}
 
 -- the mesh has the vertex, at a point of the area

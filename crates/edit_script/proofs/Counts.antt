@@ -1,6 +1,6 @@
 -- A line with another number of words than it needs.
 use Rattle.std.proofs.Common.{◌≡◌, ◌≢◌, ℕ, List, [], ◌∷◌, length, Err, refl}
-use Rattle.mesh_data.specs.declared.items.ScriptWhy.TheVariants.{Words}
+use Rattle.edit_script.specs.declared.fault.ScriptWhy.TheVariants.{Words}
 use Rattle.edit_script.specs.Line.{task_says, move_says, collapse_says, flip_says, simplify_says}
 
 -- words behind `task` that aren't seven

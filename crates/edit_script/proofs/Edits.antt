@@ -5,13 +5,14 @@ use Rattle.std.proofs.lemmas.List.Elements.{All-set, All-get_or, All-push}
 use Rattle.std.proofs.lemmas.List.{length-set, get_or-set_same, get_or-set_other, take-set-le}
 use Rattle.std.proofs.lemmas.Bool.{cases_eq}
 use Rattle.std.proofs.lemmas.Bool.Decides.{nat_tests}
+use Rattle.oemm_limits.specs.declared.TheConstants.{MOST_EDITS}
 use Rattle.mesh_data.specs.declared.edits.Edit.{Edit}
 use Rattle.mesh_data.specs.declared.edits.Task.{Task}
-use Rattle.mesh_data.specs.declared.items.ScriptWhy.TheVariants.{NoTask}
-use Rattle.mesh_data.specs.declared.items.What.TheVariants.{Edits}
+use Rattle.edit_script.specs.declared.fault.ScriptWhy.TheVariants.{NoTask}
+use Rattle.oemm_limits.specs.declared.what.What.TheVariants.{Edits}
 use Rattle.edit_script.specs.declared.fault.ScriptFault.{ScriptFault}
 use Rattle.edit_script.specs.declared.fault.ScriptFault.TheVariants.{Syntax, TooMany}
-use Rattle.edit_script.specs.Grammar.{with_edit, edited, most_edits, lane_count, ◌>>=◌}
+use Rattle.edit_script.specs.Grammar.{with_edit, edited, lane_count, ◌>>=◌}
 use Rattle.edit_script.specs.Ranges.{IsDraft, IsTask, IsEdit, AreNumbered}
 
 -- no task
@@ -55,22 +56,22 @@ with_edit_last number (first ∷ tasks) last edit task h e =
 -- a last task that has all its edits
 pub with_edit_full :
     (number : ℕ) (tasks : List Task) (last : ℕ) (edit : Edit) (task : Task) → length tasks ≡ last + 1 →
-    task ≡ get_or tasks last task → most_edits ≤ length task.edits →
-    with_edit number tasks edit ≡ Err (TooMany Edits (most_edits + 1))
+    task ≡ get_or tasks last task → MOST_EDITS ≤ length task.edits →
+    with_edit number tasks edit ≡ Err (TooMany Edits (MOST_EDITS + 1))
 with_edit_full number tasks last edit task h e full =
-    let closed : nat_lt (length task.edits) most_edits ≡ false = grind (arith, nat_tests) in
+    let closed : nat_lt (length task.edits) MOST_EDITS ≡ false = grind (arith, nat_tests) in
     with_edit_last number tasks last edit task h e
-    ∙ ap (λ (b : Bool). cond b (Ok (record task { edits = task.edits ++ edit ∷ [] })) (Err (TooMany Edits (most_edits + 1))) >>= λ x. Ok (set tasks last x)) closed
+    ∙ ap (λ (b : Bool). cond b (Ok (record task { edits = task.edits ++ edit ∷ [] })) (Err (TooMany Edits (MOST_EDITS + 1))) >>= λ x. Ok (set tasks last x)) closed
 
 -- a last task that has room
 pub with_edit_ok :
     (number : ℕ) (tasks : List Task) (last : ℕ) (edit : Edit) (task : Task) → length tasks ≡ last + 1 →
-    task ≡ get_or tasks last task → length task.edits < most_edits →
+    task ≡ get_or tasks last task → length task.edits < MOST_EDITS →
     with_edit number tasks edit ≡ Ok (set tasks last (record task { edits = task.edits ++ edit ∷ [] }))
 with_edit_ok number tasks last edit task h e room =
-    let open_ : nat_lt (length task.edits) most_edits ≡ true = grind (arith, nat_tests) in
+    let open_ : nat_lt (length task.edits) MOST_EDITS ≡ true = grind (arith, nat_tests) in
     with_edit_last number tasks last edit task h e
-    ∙ ap (λ (b : Bool). cond b (Ok (record task { edits = task.edits ++ edit ∷ [] })) (Err (TooMany Edits (most_edits + 1))) >>= λ x. Ok (set tasks last x)) open_
+    ∙ ap (λ (b : Bool). cond b (Ok (record task { edits = task.edits ++ edit ∷ [] })) (Err (TooMany Edits (MOST_EDITS + 1))) >>= λ x. Ok (set tasks last x)) open_
 
 -- an edit leaves the number of a lane's tasks
 lane_count-edit :
@@ -114,7 +115,7 @@ numbered_edit tasks last task edits whole e numbered k d h =
 -- an edit leaves what is kept of the tasks
 pub kept_by_edit :
     (counts : List ℕ) (tasks : List Task) (last : ℕ) (task : Task) (edit : Edit) (edits : List Edit) → length tasks ≡ last + 1 →
-    task ≡ get_or tasks last task → edits ≡ task.edits ++ edit ∷ [] → IsEdit edit → length edits ≤ most_edits → IsDraft counts tasks →
+    task ≡ get_or tasks last task → edits ≡ task.edits ++ edit ∷ [] → IsEdit edit → length edits ≤ MOST_EDITS → IsDraft counts tasks →
     IsDraft counts (set tasks last (record task { edits = edits }))
 kept_by_edit counts tasks last task edit edits whole e pushed within room kept =
     let below : last < length tasks = omega arith in

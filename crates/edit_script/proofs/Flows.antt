@@ -1,22 +1,23 @@
 -- What the lines of held bytes say, call by call.
 use Rattle.std.proofs.Common.{◌≡◌, ℕ, true, List, ◌++◌, Option, Some, None, Ok, Err, refl, ap, subst, ◌∙◌, arith}
+use Rattle.oemm_limits.specs.declared.TheConstants.{MOST_SCRIPT_BYTES}
 use Rattle.fault_counts.specs.Counts.{Rose, TellsFailure}
 use Rattle.fault_counts.specs.Told.{Told}
 use Rattle.oemm_lines.specs.declared.parts.Line.{Line}
 use Rattle.oemm_lines.specs.declared.parts.LineFault.{LineFault}
 use Rattle.oemm_lines.specs.declared.parts.LineFault.TheVariants as line
 use Rattle.oemm_lines.specs.declared.parts.LineFault.TheVariants.{TooLong, Bytes}
-use Rattle.oemm_lines.specs.Stream.{Flow, Stream, GivesLine, GivesNext, Says, behind, nothing_more, flow_of, fresh_stream, told_lines}
+use Rattle.oemm_lines.specs.Stream.{Flow, Stream, GivesLine, GivesNext, Says, line_then, nothing_more, flow_of, fresh_stream, told_lines}
 use Rattle.mesh_data.specs.declared.edits.Task.{Task}
-use Rattle.edit_script.specs.Grammar.{fault_of_line, most_bytes, tasks_of}
+use Rattle.edit_script.specs.Grammar.{fault_of_line, tasks_of}
 use Rattle.edit_script.specs.Script.{StopsBy}
 use Rattle.edit_script.proofs.Readings.{tasks_stop}
 
 -- before the first call
-pub fresh_flow : {S : Type 0} (s : Stream S) (left bytes : List ℕ) → s ≡ fresh_stream most_bytes true s.source → left ≡ bytes → flow_of s (s.ahead ++ left) ≡ told_lines true most_bytes 0 1 bytes
-fresh_flow {S} s left bytes fresh same = ap (λ (t : Stream S). flow_of t (t.ahead ++ left)) fresh ∙ ap (told_lines true most_bytes 0 1) same
+pub fresh_flow : {S : Type 0} (s : Stream S) (left bytes : List ℕ) → s ≡ fresh_stream MOST_SCRIPT_BYTES true s.source → left ≡ bytes → flow_of s (s.ahead ++ left) ≡ told_lines true MOST_SCRIPT_BYTES 0 1 bytes
+fresh_flow {S} s left bytes fresh same = ap (λ (t : Stream S). flow_of t (t.ahead ++ left)) fresh ∙ ap (told_lines true MOST_SCRIPT_BYTES 0 1) same
 
-pub begins_there : {S : Type 0} (s : Stream S) → s ≡ fresh_stream most_bytes true s.source → (s.at ≡ 0) × (s.number ≡ 1) × (s.fault ≡ None) × (s.budget ≡ most_bytes)
+pub begins_there : {S : Type 0} (s : Stream S) → s ≡ fresh_stream MOST_SCRIPT_BYTES true s.source → (s.at ≡ 0) × (s.number ≡ 1) × (s.fault ≡ None) × (s.budget ≡ MOST_SCRIPT_BYTES)
 begins_there {S} s fresh = (
   ap (λ (t : Stream S). t.at) fresh,
   ap (λ (t : Stream S). t.number) fresh,
@@ -25,9 +26,9 @@ begins_there {S} s fresh = (
 )
 
 -- a line was given
-pub line_told : (old new : Flow) (answer : Option Line) (l : Line) → answer ≡ Some l → Says (Some old) (Ok answer) (Some new) → old ≡ behind l new
+pub line_told : (old new : Flow) (answer : Option Line) (l : Line) → answer ≡ Some l → Says (Some old) (Ok answer) (Some new) → old ≡ line_then l new
 line_told old new answer l is says =
-    let told : Some old ≡ Some (behind l new) = subst (λ (a : Option Line). Says (Some old) (Ok a) (Some new)) is says in
+    let told : Some old ≡ Some (line_then l new) = subst (λ (a : Option Line). Says (Some old) (Ok a) (Some new)) is says in
     cc
 
 pub line_given : {S : Type 0} (told : S → Told) (old new : Stream S) (answer : Option Line) (l : Line) → answer ≡ Some l → GivesNext told old (Ok answer) new → GivesLine told old l new

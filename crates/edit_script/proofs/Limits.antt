@@ -1,10 +1,10 @@
 -- What can stand behind the lines of bytes that lie within the budget.
 use Rattle.std.proofs.Common.{◌≡◌, ℕ, suc, ◌+◌, ◌≤◌, ◌&&◌, Bool, true, false, nat_lt, cond, List, [], ◌∷◌, length, Option, Some, None, ◌⊎◌, inl, inr, refl, ap, sym, ◌∙◌, arith, ◌==◌, if◌then◌else◌}
 use Rattle.std.proofs.lemmas.Bool.Decides.{nat_tests}
+use Rattle.oemm_limits.specs.declared.TheConstants.{MOST_LINE_BYTES, MOST_SCRIPT_BYTES}
 use Rattle.oemm_lines.specs.declared.parts.LineFault.{LineFault}
 use Rattle.oemm_lines.specs.declared.parts.LineFault.TheVariants.{TooLong, Bytes}
-use Rattle.oemm_lines.specs.Stream.{longest, Body, bodies, bodies_with, size_of, text_of, line_of, led_by, flow_from, told_lines}
-use Rattle.edit_script.specs.Grammar.{most_bytes}
+use Rattle.oemm_lines.specs.Stream.{Body, bodies, bodies_with, size_of, text_of, line_of, led_by, flow_from, told_lines}
 
 -- how many bytes the lines have in all
 sizes : List Body → ℕ
@@ -47,14 +47,14 @@ only_long budget at number (b ∷ bs) fault within is =
     let past : nat_lt budget (at + size_of b) ≡ false = grind (arith, nat_tests) in
     let led : Option LineFault → Option LineFault =
     λ f. (led_by f (line_of true at number (text_of b)) (flow_from true budget (at + size_of b) (number + 1) bs)).fault in
-    elim (either_fault (nat_lt longest (length b.bytes) && nat_lt (at + longest) budget) (nat_lt budget (at + size_of b)) budget at past) [
+    elim (either_fault (nat_lt MOST_LINE_BYTES (length b.bytes) && nat_lt (at + MOST_LINE_BYTES) budget) (nat_lt budget (at + size_of b)) budget at past) [
       | inl none ↦
           only_long budget (at + size_of b) (number + 1) bs fault (omega arith) (sym (ap led none) ∙ is)
       | inr long ↦ (let there = sym (ap led long) ∙ is in (at, cc))
     ]
 
 -- of a script within its limit of bytes
-pub only_too_long : (bytes : List ℕ) (fault : LineFault) → length bytes ≤ most_bytes →
-    (told_lines true most_bytes 0 1 bytes).fault ≡ Some fault → (at : ℕ) × (fault ≡ TooLong at)
+pub only_too_long : (bytes : List ℕ) (fault : LineFault) → length bytes ≤ MOST_SCRIPT_BYTES →
+    (told_lines true MOST_SCRIPT_BYTES 0 1 bytes).fault ≡ Some fault → (at : ℕ) × (fault ≡ TooLong at)
 only_too_long bytes fault within is =
-    only_long most_bytes 0 1 (bodies bytes) fault (omega (arith, sizes-bodies bytes)) is
+    only_long MOST_SCRIPT_BYTES 0 1 (bodies bytes) fault (omega (arith, sizes-bodies bytes)) is

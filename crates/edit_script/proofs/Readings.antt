@@ -1,6 +1,7 @@
 -- What is read of a script, line by line, and of a source that was taken whole.
 use Rattle.std.proofs.Common.{◌≡◌, ◌≢◌, ℕ, ◌<◌, ◌≤◌, List, [], ◌∷◌, ◌++◌, length, Some, None, Result, Ok, Err, refl, ap, sym, subst, ◌∙◌, cond, true, false, Bool, nat_lt, IfSome, IfOk, IfErr, arith, append-nil}
 use Rattle.std.proofs.lemmas.Bool.Decides.{nat_tests}
+use Rattle.oemm_limits.specs.declared.TheConstants.{MOST_SCRIPT_BYTES}
 use Rattle.fault_counts.specs.Told.{Told, Takes, IsAtEnd}
 use Rattle.oemm_io.specs.Whole.{IsLongerThan}
 use Rattle.oemm_io.specs.declared.whole.TakeFault.{TakeFault}
@@ -9,14 +10,14 @@ use Rattle.oemm_io.specs.declared.whole.TakeFault.TheVariants.{Failed}
 use Rattle.oemm_lines.specs.declared.parts.Word.{Word}
 use Rattle.oemm_lines.specs.declared.parts.Line.{Line}
 use Rattle.oemm_lines.specs.declared.parts.LineFault.{LineFault}
-use Rattle.oemm_lines.specs.Stream.{Flow, texts_of, behind, fault_alone, nothing_more, told_lines}
+use Rattle.oemm_lines.specs.Stream.{Flow, texts_of, line_then, fault_alone, nothing_more, told_lines}
 use Rattle.mesh_data.specs.declared.edits.Task.{Task}
 use Rattle.mesh_data.specs.declared.edits.Script.{Script}
-use Rattle.mesh_data.specs.declared.items.What.TheVariants.{ScriptBytes}
+use Rattle.oemm_limits.specs.declared.what.What.TheVariants.{ScriptBytes}
 use Rattle.edit_script.specs.declared.fault.ScriptFault.{ScriptFault}
 use Rattle.edit_script.specs.declared.fault.ScriptFault.TheVariants.{Read, Syntax, TooMany, Memory}
 use Rattle.edit_script.specs.Line.{line_says}
-use Rattle.edit_script.specs.Grammar.{after_line, has_words, fault_of_line, tasks_after, tasks_of, script_of, most_bytes, ◌>>=◌}
+use Rattle.edit_script.specs.Grammar.{after_line, has_words, fault_of_line, tasks_after, tasks_of, script_of, ◌>>=◌}
 use Rattle.edit_script.specs.Script.{StopsBy, GivesScript, fault_of_take}
 
 -- a line has words, unless it has none
@@ -26,7 +27,7 @@ words_there (w ∷ ws) some = grind (arith, nat_tests)
 
 -- a line without words says nothing
 pub tasks_passed :
-    (tasks : List Task) (l : Line) (flow : Flow) → l.words ≡ [] → tasks_of tasks (behind l flow) ≡ tasks_of tasks flow
+    (tasks : List Task) (l : Line) (flow : Flow) → l.words ≡ [] → tasks_of tasks (line_then l flow) ≡ tasks_of tasks flow
 tasks_passed tasks l flow none =
     let bare : has_words l ≡ false = ap (λ (ws : List Word). nat_lt 0 (length ws)) none in
     rw bare
@@ -34,7 +35,7 @@ tasks_passed tasks l flow none =
 -- the lines from one with words on
 tasks_from :
     (tasks : List Task) (l : Line) (flow : Flow) → l.words ≢ [] →
-    tasks_of tasks (behind l flow) ≡ (after_line l.number tasks (line_says (texts_of l)) >>= λ more. tasks_of more flow)
+    tasks_of tasks (line_then l flow) ≡ (after_line l.number tasks (line_says (texts_of l)) >>= λ more. tasks_of more flow)
 unfolding tasks_after
 tasks_from tasks l flow some =
     let there : has_words l ≡ true = words_there l.words some in
@@ -44,7 +45,7 @@ tasks_from tasks l flow some =
 pub tasks_read :
     (tasks more : List Task) (l : Line) (flow : Flow) → l.words ≢ [] →
     after_line l.number tasks (line_says (texts_of l)) ≡ Ok more →
-    tasks_of tasks (behind l flow) ≡ tasks_of more flow
+    tasks_of tasks (line_then l flow) ≡ tasks_of more flow
 tasks_read tasks more l flow some read =
     tasks_from tasks l flow some
     ∙ ap (λ (outcome : Result (List Task) ScriptFault). outcome >>= λ next. tasks_of next flow) read
@@ -61,7 +62,7 @@ stops_first first next Memory h = tt
 pub tasks_fault :
     (tasks : List Task) (l : Line) (flow : Flow) (fault : ScriptFault) → l.words ≢ [] →
     StopsBy fault (after_line l.number tasks (line_says (texts_of l))) →
-    StopsBy fault (tasks_of tasks (behind l flow))
+    StopsBy fault (tasks_of tasks (line_then l flow))
 tasks_fault tasks l flow fault some stops =
     subst (StopsBy fault) (sym (tasks_from tasks l flow some))
     (stops_first (after_line l.number tasks (line_says (texts_of l))) (λ more. tasks_of more flow) fault stops)
@@ -78,19 +79,19 @@ tasks_stop tasks fault = refl
 
 -- a script within the limit of bytes is that of its lines
 pub script_of_short :
-    (bytes : List ℕ) → length bytes ≤ most_bytes → script_of bytes ≡ tasks_of [] (told_lines true most_bytes 0 1 bytes)
+    (bytes : List ℕ) → length bytes ≤ MOST_SCRIPT_BYTES → script_of bytes ≡ tasks_of [] (told_lines true MOST_SCRIPT_BYTES 0 1 bytes)
 unfolding script_of
 script_of_short bytes h =
-    let within : nat_lt most_bytes (length bytes) ≡ false = grind (arith, nat_tests) in
-    ap (λ (long : Bool). cond long (Err (TooMany ScriptBytes most_bytes)) (tasks_of [] (told_lines true most_bytes 0 1 bytes))) within
+    let within : nat_lt MOST_SCRIPT_BYTES (length bytes) ≡ false = grind (arith, nat_tests) in
+    ap (λ (long : Bool). cond long (Err (TooMany ScriptBytes MOST_SCRIPT_BYTES)) (tasks_of [] (told_lines true MOST_SCRIPT_BYTES 0 1 bytes))) within
 
 -- a script above the limit of bytes
 pub script_of_long :
-    (bytes : List ℕ) → most_bytes < length bytes → script_of bytes ≡ Err (TooMany ScriptBytes most_bytes)
+    (bytes : List ℕ) → MOST_SCRIPT_BYTES < length bytes → script_of bytes ≡ Err (TooMany ScriptBytes MOST_SCRIPT_BYTES)
 unfolding script_of
 script_of_long bytes h =
-    let above : nat_lt most_bytes (length bytes) ≡ true = grind (arith, nat_tests) in
-    ap (λ (long : Bool). cond long (Err (TooMany ScriptBytes most_bytes)) (tasks_of [] (told_lines true most_bytes 0 1 bytes))) above
+    let above : nat_lt MOST_SCRIPT_BYTES (length bytes) ≡ true = grind (arith, nat_tests) in
+    ap (λ (long : Bool). cond long (Err (TooMany ScriptBytes MOST_SCRIPT_BYTES)) (tasks_of [] (told_lines true MOST_SCRIPT_BYTES 0 1 bytes))) above
 
 -- what holds of the bytes that were taken, to the end, holds of what is told
 pub told_whole :
@@ -104,7 +105,7 @@ told_whole (Some all) (Some rest) bytes P taken end h =
 
 -- a source that can't be taken whole
 pub told_fault :
-    (old : Told) (fault : TakeFault) → (fault ≡ take.TooMany → IsLongerThan old most_bytes) →
+    (old : Told) (fault : TakeFault) → (fault ≡ take.TooMany → IsLongerThan old MOST_SCRIPT_BYTES) →
     IfSome old (λ bytes. GivesScript (Err (fault_of_take fault)) (script_of bytes))
 told_fault None fault h = tt
 told_fault (Some bytes) Failed h = tt

@@ -4,9 +4,10 @@ use Rattle.std.proofs.lemmas.List.Sums.{sum_by_push}
 use Rattle.std.proofs.lemmas.List.Elements.{All-push, All-nil}
 use Rattle.std.proofs.lemmas.List.{length-append, take_at, get_or_push, get_or_append_left, take-append-le, get_or-replicate, get_or-set_same, get_or-set_other}
 use Rattle.std.proofs.lemmas.Bool.{eqb-true, eq-eqb, cases_eq}
-use Rattle.mesh_data.specs.declared.geometry.Point.{Point}
+use Rattle.oemm_limits.specs.declared.TheConstants.{MOST_TASKS}
+use Rattle.oemm_octree.specs.declared.points.Point.{Point}
 use Rattle.mesh_data.specs.declared.edits.Task.{Task}
-use Rattle.edit_script.specs.Grammar.{lane_count, most_tasks}
+use Rattle.edit_script.specs.Grammar.{lane_count}
 use Rattle.edit_script.specs.Ranges.{IsDraft, IsTask, IsEdit, IsBox, AreNumbered}
 
 -- no task was read
@@ -67,12 +68,12 @@ numbered_task tasks task n numbered k d h = by (cases_eq k (length tasks))
 -- a new task leaves what is kept
 pub kept_by_task :
     (counts : List ℕ) (tasks : List Task) (lane number : ℕ) (low high : Point) → length counts ≡ 64 → lane < 64 → IsBox low high →
-    length tasks < most_tasks → number ≡ slice_index counts lane → IsDraft counts tasks →
+    length tasks < MOST_TASKS → number ≡ slice_index counts lane → IsDraft counts tasks →
     IsDraft (set counts lane (slice_index counts lane + 1))
     (tasks ++ record { lane = lane; number = number; low = low; high = high; edits = [] } ∷ [])
 kept_by_task counts tasks lane number low high size below box room n kept =
     let task : Task = record { lane = lane; number = number; low = low; high = high; edits = [] } in
-    let one : IsTask task = record { lane = below; box = box; few = omega arith; each = All-nil IsEdit } in
+    let one : IsTask task = record { lane = omega (arith, below); box = box; few = omega arith; each = All-nil IsEdit } in
     record {
       counts = λ other h.
           let more : lane_count other (tasks ++ task ∷ []) ≡ lane_count other tasks + cond (lane == other) 1 0

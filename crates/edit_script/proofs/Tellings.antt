@@ -5,19 +5,20 @@ use Rattle.std.proofs.lemmas.List.{map-append, length-append, get_or_at, get_or_
 use Rattle.std.proofs.lemmas.List.Elements.{All-nil, All-take, All-push}
 use Rattle.std.proofs.lemmas.Grind.{flat_map-append}
 use Rattle.std.proofs.lemmas.Bool.Decides.{nat_tests}
+use Rattle.oemm_limits.specs.declared.TheConstants.{MOST_EDITS, MOST_SCRIPT_BYTES, MOST_TASKS}
 use Rattle.oemm_lines.specs.declared.parts.Line.{Line}
 use Rattle.oemm_lines.specs.declared.parts.LineFault.{LineFault}
-use Rattle.mesh_data.specs.declared.geometry.Point.{Point}
+use Rattle.oemm_octree.specs.declared.points.Point.{Point}
 use Rattle.mesh_data.specs.declared.edits.Edit.{Edit}
 use Rattle.mesh_data.specs.declared.edits.Task.{Task}
-use Rattle.mesh_data.specs.declared.items.ScriptWhy.{ScriptWhy}
-use Rattle.mesh_data.specs.declared.items.ScriptWhy.TheVariants.{NoTask}
-use Rattle.mesh_data.specs.declared.items.What.TheVariants.{ScriptBytes, Tasks, Edits}
+use Rattle.edit_script.specs.declared.fault.ScriptWhy.{ScriptWhy}
+use Rattle.edit_script.specs.declared.fault.ScriptWhy.TheVariants.{NoTask}
+use Rattle.oemm_limits.specs.declared.what.What.TheVariants.{ScriptBytes, Tasks, Edits}
 use Rattle.edit_script.specs.declared.fault.ScriptFault.{ScriptFault}
 use Rattle.edit_script.specs.declared.fault.ScriptFault.TheVariants.{Syntax, TooMany}
 use Rattle.edit_script.specs.declared.line.LineMeaning.{LineMeaning}
 use Rattle.edit_script.specs.declared.line.LineMeaning.TheVariants.{TaskLine, EditLine}
-use Rattle.edit_script.specs.Grammar.{with_task, with_edit, edited, next_task, after_line, fault_of_line, script_of, tasks_of, tasks_after, tasks_at_end, lane_count, most_bytes, most_edits, most_tasks, ◌>>=◌}
+use Rattle.edit_script.specs.Grammar.{with_task, with_edit, edited, next_task, after_line, fault_of_line, script_of, tasks_of, tasks_after, tasks_at_end, lane_count, ◌>>=◌}
 use Rattle.edit_script.specs.Ranges.{AreNumbered}
 use Rattle.edit_script.specs.Tells.{script_lines, spoken_lines, saying, sayings, telling, HasFewEdits, AreInOrder, Tell, TellsScript}
 use Rattle.edit_script.proofs.Tasks.{numbered_task}
@@ -44,15 +45,15 @@ rest_of x y xs ys same = cc
 is_below : (n m : ℕ) → nat_lt n m ≡ true → n < m
 is_below n m h = grind (arith, nat_tests)
 
-edited_ok : (task last : Task) (edit : Edit) → edited task edit ≡ Ok last → (length task.edits < most_edits) × (last ≡ record task { edits = task.edits ++ edit ∷ [] })
+edited_ok : (task last : Task) (edit : Edit) → edited task edit ≡ Ok last → (length task.edits < MOST_EDITS) × (last ≡ record task { edits = task.edits ++ edit ∷ [] })
 edited_ok task last edit is =
-    let p = guarded (nat_lt (length task.edits) most_edits) (record task { edits = task.edits ++ edit ∷ [] }) last (TooMany Edits (most_edits + 1)) is in
-    (is_below (length task.edits) most_edits p.0, p.1)
+    let p = guarded (nat_lt (length task.edits) MOST_EDITS) (record task { edits = task.edits ++ edit ∷ [] }) last (TooMany Edits (MOST_EDITS + 1)) is in
+    (is_below (length task.edits) MOST_EDITS p.0, p.1)
 
-edited_room : (task : Task) (edit : Edit) → length task.edits < most_edits → edited task edit ≡ Ok (record task { edits = task.edits ++ edit ∷ [] })
+edited_room : (task : Task) (edit : Edit) → length task.edits < MOST_EDITS → edited task edit ≡ Ok (record task { edits = task.edits ++ edit ∷ [] })
 edited_room task edit room =
-    let open_ : nat_lt (length task.edits) most_edits ≡ true = grind (arith, nat_tests) in
-    ap (λ (b : Bool). cond b (Ok (record task { edits = task.edits ++ edit ∷ [] })) (Err (TooMany Edits (most_edits + 1)))) open_
+    let open_ : nat_lt (length task.edits) MOST_EDITS ≡ true = grind (arith, nat_tests) in
+    ap (λ (b : Bool). cond b (Ok (record task { edits = task.edits ++ edit ∷ [] })) (Err (TooMany Edits (MOST_EDITS + 1)))) open_
 
 -- the last task has one more edit
 onto_first : (first : Task) (tasks : List Task) (outcome : Result Task ScriptFault) →
@@ -115,7 +116,7 @@ front_numbered front more numbered k d h =
 pub none_in_order : AreInOrder []
 none_in_order = record { few = omega arith; each = All-nil HasFewEdits; numbered = λ k d h. absurd (omega (arith, h)) }
 
-begun_in_order : (tasks : List Task) (lane : ℕ) (low high : Point) → length tasks < most_tasks → AreInOrder tasks → AreInOrder (tasks ++ next_task tasks lane low high ∷ [])
+begun_in_order : (tasks : List Task) (lane : ℕ) (low high : Point) → length tasks < MOST_TASKS → AreInOrder tasks → AreInOrder (tasks ++ next_task tasks lane low high ∷ [])
 begun_in_order tasks lane low high room order =
     let task : Task = next_task tasks lane low high in
     record {
@@ -124,7 +125,7 @@ begun_in_order tasks lane low high room order =
       numbered = numbered_task tasks task refl order.numbered;
     }
 
-edited_in_order : (front : List Task) (task : Task) (edit : Edit) → length task.edits < most_edits → AreInOrder (front ++ task ∷ []) → AreInOrder (front ++ record task { edits = task.edits ++ edit ∷ [] } ∷ [])
+edited_in_order : (front : List Task) (task : Task) (edit : Edit) → length task.edits < MOST_EDITS → AreInOrder (front ++ task ∷ []) → AreInOrder (front ++ record task { edits = task.edits ++ edit ∷ [] } ∷ [])
 edited_in_order front task edit room order =
     let last : Task = record task { edits = task.edits ++ edit ∷ [] } in
     let each : All HasFewEdits front = subst (All HasFewEdits) (take_at front (task ∷ []) (length front) refl) (All-take HasFewEdits (length front) (front ++ task ∷ []) order.each) in
@@ -135,11 +136,11 @@ edited_in_order front task edit room order =
     }
 
 -- what a line adds to what tells the tasks
-begins : (tasks more : List Task) (lane : ℕ) (low high : Point) → with_task tasks lane low high ≡ Ok more → (length tasks < most_tasks) × (more ≡ tasks ++ next_task tasks lane low high ∷ [])
+begins : (tasks more : List Task) (lane : ℕ) (low high : Point) → with_task tasks lane low high ≡ Ok more → (length tasks < MOST_TASKS) × (more ≡ tasks ++ next_task tasks lane low high ∷ [])
 unfolding with_task
 begins tasks more lane low high is =
-    let p = guarded (nat_lt (length tasks) most_tasks) (tasks ++ next_task tasks lane low high ∷ []) more (TooMany Tasks (most_tasks + 1)) is in
-    (is_below (length tasks) most_tasks p.0, p.1)
+    let p = guarded (nat_lt (length tasks) MOST_TASKS) (tasks ++ next_task tasks lane low high ∷ []) more (TooMany Tasks (MOST_TASKS + 1)) is in
+    (is_below (length tasks) MOST_TASKS p.0, p.1)
 
 no_task_edited : (number : ℕ) (more : List Task) (edit : Edit) → with_edit number [] edit ≡ Ok more → ⊥
 unfolding with_edit
@@ -191,7 +192,7 @@ lines_tell (l ∷ lines) end tasks more is order =
 
 -- lines that tell edits add them to the last task
 edit_read : (l : Line) (lines : List Line) (end : Option LineFault) (front : List Task) (task : Task) (edit : Edit) →
-    saying l ≡ Ok (EditLine edit) → length task.edits < most_edits →
+    saying l ≡ Ok (EditLine edit) → length task.edits < MOST_EDITS →
     tasks_after (front ++ task ∷ []) (l ∷ lines) end ≡ tasks_after (front ++ record task { edits = task.edits ++ edit ∷ [] } ∷ []) lines end
 unfolding tasks_after
 edit_read l lines end front task edit says room =
@@ -201,7 +202,7 @@ edit_read l lines end front task edit says room =
     ∙ ap (λ (outcome : Result Task ScriptFault). outcome >>= λ last. Ok (front ++ last ∷ [])) (edited_room task edit room))
 
 edits_read : (edits : List Edit) (lines : List Line) (rest : List (Result LineMeaning ScriptWhy)) (front : List Task) (task : Task) (all : List Edit) (end : Option LineFault) →
-    sayings lines ≡ map (λ edit. Ok (EditLine edit)) edits ++ rest → task.edits ++ edits ≡ all → length all ≤ most_edits →
+    sayings lines ≡ map (λ edit. Ok (EditLine edit)) edits ++ rest → task.edits ++ edits ≡ all → length all ≤ MOST_EDITS →
     (later : List Line) × (sayings later ≡ rest)
     × (tasks_after (front ++ task ∷ []) lines end ≡ tasks_after (front ++ record task { edits = all } ∷ []) later end)
 edits_read [] lines rest front task all end told same few =
@@ -211,19 +212,19 @@ edits_read (edit ∷ edits) (l ∷ lines) rest front task all end told same few 
     let says : saying l ≡ Ok (EditLine edit) = first_of (saying l) (Ok (EditLine edit)) (sayings lines) (map (λ edit. Ok (EditLine edit)) edits ++ rest) told in
     let after : sayings lines ≡ map (λ edit. Ok (EditLine edit)) edits ++ rest = rest_of (saying l) (Ok (EditLine edit)) (sayings lines) (map (λ edit. Ok (EditLine edit)) edits ++ rest) told in
     let size : length (task.edits ++ edit ∷ edits) ≡ length all = ap (λ (es : List Edit). length es) same in
-    let room : length task.edits < most_edits = omega (arith, length-append task.edits (edit ∷ edits), size, few) in
+    let room : length task.edits < MOST_EDITS = omega (arith, length-append task.edits (edit ∷ edits), size, few) in
     let on = edits_read edits lines rest front (record task { edits = task.edits ++ edit ∷ [] }) all end after (append_assoc task.edits (edit ∷ []) edits ∙ same) few in
     (on.0, on.1, edit_read l lines end front task edit says room ∙ on.2)
 
 -- a line that tells a task begins it
 task_read : (l : Line) (lines : List Line) (end : Option LineFault) (tasks : List Task) (lane : ℕ) (low high : Point) →
-    saying l ≡ Ok (TaskLine lane low high) → length tasks < most_tasks →
+    saying l ≡ Ok (TaskLine lane low high) → length tasks < MOST_TASKS →
     tasks_after tasks (l ∷ lines) end ≡ tasks_after (tasks ++ next_task tasks lane low high ∷ []) lines end
 unfolding tasks_after with_task
 task_read l lines end tasks lane low high says room =
-    let open_ : nat_lt (length tasks) most_tasks ≡ true = grind (arith, nat_tests) in
+    let open_ : nat_lt (length tasks) MOST_TASKS ≡ true = grind (arith, nat_tests) in
     ap (λ (meaning : Result LineMeaning ScriptWhy). after_line l.number tasks meaning >>= λ more. tasks_after more lines end) says
-    ∙ ap (λ (b : Bool). cond b (Ok (tasks ++ next_task tasks lane low high ∷ [])) (Err (TooMany Tasks (most_tasks + 1))) >>= λ more. tasks_after more lines end) open_
+    ∙ ap (λ (b : Bool). cond b (Ok (tasks ++ next_task tasks lane low high ∷ [])) (Err (TooMany Tasks (MOST_TASKS + 1))) >>= λ more. tasks_after more lines end) open_
 
 -- lines that tell tasks are read as these
 tasks_at_lines : (tasks : List Task) (end : Option LineFault) → tasks_after tasks [] end ≡ tasks_at_end tasks end
@@ -243,7 +244,7 @@ lines_read (task ∷ more) (l ∷ lines) front end told order =
     let after : sayings lines ≡ behind = rest_of (saying l) head (sayings lines) behind told in
     let new : Task = next_task front task.lane task.low task.high in
     let size = length-append front (task ∷ more) in
-    let room : length front < most_tasks = omega (arith, size, order.few) in
+    let room : length front < MOST_TASKS = omega (arith, size, order.few) in
     let there : get_or (front ++ task ∷ more) (length front) task ≡ task = get_or_at front task more task (length front) refl in
     let few : HasFewEdits task = subst HasFewEdits there (order.each (length front) task (omega (arith, size))) in
     let on = edits_read task.edits lines (flat_map telling more) front new task.edits end after refl few in
@@ -274,10 +275,10 @@ short_of : (long : Bool) (rest : Result (List Task) ScriptFault) (fault : Script
 short_of true rest fault tasks is = cc
 short_of false rest fault tasks is = refl
 
-is_short : (bytes : List ℕ) (tasks : List Task) → script_of bytes ≡ Ok tasks → length bytes ≤ most_bytes
+is_short : (bytes : List ℕ) (tasks : List Task) → script_of bytes ≡ Ok tasks → length bytes ≤ MOST_SCRIPT_BYTES
 unfolding script_of
 is_short bytes tasks is =
-    let within : nat_lt most_bytes (length bytes) ≡ false = short_of (nat_lt most_bytes (length bytes)) (tasks_of [] (script_lines bytes)) (TooMany ScriptBytes most_bytes) tasks is in
+    let within : nat_lt MOST_SCRIPT_BYTES (length bytes) ≡ false = short_of (nat_lt MOST_SCRIPT_BYTES (length bytes)) (tasks_of [] (script_lines bytes)) (TooMany ScriptBytes MOST_SCRIPT_BYTES) tasks is in
     grind (arith, nat_tests)
 
 pub script_read : (bytes : List ℕ) (tasks : List Task) → TellsScript bytes tasks → script_of bytes ≡ Ok tasks
@@ -288,7 +289,7 @@ script_read bytes tasks tells =
 
 pub script_told : (bytes : List ℕ) (tasks : List Task) → script_of bytes ≡ Ok tasks → TellsScript bytes tasks
 script_told bytes tasks is =
-    let short : length bytes ≤ most_bytes = is_short bytes tasks is in
+    let short : length bytes ≤ MOST_SCRIPT_BYTES = is_short bytes tasks is in
     let told = lines_tell (spoken_lines bytes) (script_lines bytes).fault [] tasks (sym (script_of_short bytes short) ∙ is) none_in_order in
     record { short = short; whole = told.0; told = (sym told.2, told.1) }
 
@@ -298,7 +299,7 @@ unfolding tasks_after
 stopped l later end tasks fault is = ap (λ (outcome : Result (List Task) ScriptFault). outcome >>= λ more. tasks_after more later end) is
 
 pub script_stops : (bytes : List ℕ) (lines later : List Line) (l : Line) (tasks : List Task) (fault : ScriptFault) →
-    length bytes ≤ most_bytes → spoken_lines bytes ≡ lines ++ l ∷ later → Tell lines tasks → after_line l.number tasks (saying l) ≡ Err fault → script_of bytes ≡ Err fault
+    length bytes ≤ MOST_SCRIPT_BYTES → spoken_lines bytes ≡ lines ++ l ∷ later → Tell lines tasks → after_line l.number tasks (saying l) ≡ Err fault → script_of bytes ≡ Err fault
 script_stops bytes lines later l tasks fault short spoken told is =
     let end : Option LineFault = (script_lines bytes).fault in
     script_of_short bytes short
@@ -315,22 +316,22 @@ pub refused_first : (l : Line) (edit : Edit) → saying l ≡ Ok (EditLine edit)
 unfolding with_edit
 refused_first l edit says = ap (after_line l.number []) says
 
-pub refused_task : (l : Line) (tasks : List Task) (lane : ℕ) (low high : Point) → saying l ≡ Ok (TaskLine lane low high) → most_tasks ≤ length tasks → after_line l.number tasks (saying l) ≡ Err (TooMany Tasks (most_tasks + 1))
+pub refused_task : (l : Line) (tasks : List Task) (lane : ℕ) (low high : Point) → saying l ≡ Ok (TaskLine lane low high) → MOST_TASKS ≤ length tasks → after_line l.number tasks (saying l) ≡ Err (TooMany Tasks (MOST_TASKS + 1))
 unfolding with_task
 refused_task l tasks lane low high says full =
-    let closed : nat_lt (length tasks) most_tasks ≡ false = grind (arith, nat_tests) in
+    let closed : nat_lt (length tasks) MOST_TASKS ≡ false = grind (arith, nat_tests) in
     ap (after_line l.number tasks) says
-    ∙ ap (λ (b : Bool). cond b (Ok (tasks ++ next_task tasks lane low high ∷ [])) (Err (TooMany Tasks (most_tasks + 1)))) closed
+    ∙ ap (λ (b : Bool). cond b (Ok (tasks ++ next_task tasks lane low high ∷ [])) (Err (TooMany Tasks (MOST_TASKS + 1)))) closed
 
-pub refused_edit : (l : Line) (tasks : List Task) (task : Task) (edit : Edit) → saying l ≡ Ok (EditLine edit) → most_edits ≤ length task.edits → after_line l.number (tasks ++ task ∷ []) (saying l) ≡ Err (TooMany Edits (most_edits + 1))
+pub refused_edit : (l : Line) (tasks : List Task) (task : Task) (edit : Edit) → saying l ≡ Ok (EditLine edit) → MOST_EDITS ≤ length task.edits → after_line l.number (tasks ++ task ∷ []) (saying l) ≡ Err (TooMany Edits (MOST_EDITS + 1))
 refused_edit l tasks task edit says full =
-    let closed : nat_lt (length task.edits) most_edits ≡ false = grind (arith, nat_tests) in
+    let closed : nat_lt (length task.edits) MOST_EDITS ≡ false = grind (arith, nat_tests) in
     ap (after_line l.number (tasks ++ task ∷ [])) says
     ∙ edit_of_last l.number tasks task edit
-    ∙ ap (λ (b : Bool). cond b (Ok (record task { edits = task.edits ++ edit ∷ [] })) (Err (TooMany Edits (most_edits + 1))) >>= λ last. Ok (tasks ++ last ∷ [])) closed
+    ∙ ap (λ (b : Bool). cond b (Ok (record task { edits = task.edits ++ edit ∷ [] })) (Err (TooMany Edits (MOST_EDITS + 1))) >>= λ last. Ok (tasks ++ last ∷ [])) closed
 
 -- a line that is too long behind lines that tell tasks, and a script that is too long
-pub long_line : (bytes : List ℕ) (tasks : List Task) (fault : LineFault) → length bytes ≤ most_bytes → Tell (spoken_lines bytes) tasks → (script_lines bytes).fault ≡ Some fault →
+pub long_line : (bytes : List ℕ) (tasks : List Task) (fault : LineFault) → length bytes ≤ MOST_SCRIPT_BYTES → Tell (spoken_lines bytes) tasks → (script_lines bytes).fault ≡ Some fault →
     script_of bytes ≡ Err (fault_of_line fault)
 long_line bytes tasks fault short told is =
     script_of_short bytes short

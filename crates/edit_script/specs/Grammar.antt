@@ -1,17 +1,18 @@
 -- The tasks that the bytes of a script say, or the first fault.
 use Rattle.std.specs.Prelude.{ℕ, ◌+◌, ◌==◌, nat_lt, Bool, true, List, [], ◌∷◌, ◌++◌, length, count_by, Option, Some, None, Result, Ok, Err, if◌then◌else◌}
 use Rattle.std.specs.List.{filter}
-use Rattle.oemm_lines.specs.Stream.{longest, texts_of, Flow, told_lines}
+use Rattle.oemm_limits.specs.declared.TheConstants.{MOST_EDITS, MOST_LINE_BYTES, MOST_SCRIPT_BYTES, MOST_TASKS}
+use Rattle.oemm_lines.specs.Stream.{texts_of, Flow, told_lines}
 use Rattle.oemm_lines.specs.declared.parts.Line.{Line}
 use Rattle.oemm_lines.specs.declared.parts.LineFault.{LineFault}
 use Rattle.oemm_lines.specs.declared.parts.LineFault.TheVariants as line
 use Rattle.oemm_lines.specs.declared.parts.LineFault.TheVariants.{TooLong, Bytes}
-use Rattle.mesh_data.specs.declared.geometry.Point.{Point}
+use Rattle.oemm_octree.specs.declared.points.Point.{Point}
 use Rattle.mesh_data.specs.declared.edits.Edit.{Edit}
 use Rattle.mesh_data.specs.declared.edits.Task.{Task}
-use Rattle.mesh_data.specs.declared.items.ScriptWhy.{ScriptWhy}
-use Rattle.mesh_data.specs.declared.items.ScriptWhy.TheVariants.{NoTask}
-use Rattle.mesh_data.specs.declared.items.What.TheVariants.{ScriptBytes, LineBytes, Tasks, Edits}
+use Rattle.edit_script.specs.declared.fault.ScriptWhy.{ScriptWhy}
+use Rattle.edit_script.specs.declared.fault.ScriptWhy.TheVariants.{NoTask}
+use Rattle.oemm_limits.specs.declared.what.What.TheVariants.{ScriptBytes, LineBytes, Tasks, Edits}
 use Rattle.edit_script.specs.declared.fault.ScriptFault.{ScriptFault}
 use Rattle.edit_script.specs.declared.fault.ScriptFault.TheVariants.{Read, Syntax, TooMany, Memory}
 use Rattle.edit_script.specs.declared.line.LineMeaning.{LineMeaning}
@@ -23,18 +24,6 @@ infixl 10 ◌>>=◌
 abbrev pub ◌>>=◌ : {A B : Type 0} → Result A ScriptFault → (A → Result B ScriptFault) → Result B ScriptFault
 (Ok x) >>= f = f x
 (Err fault) >>= f = Err fault
-
--- the greatest number of bytes of a script
-abbrev pub most_bytes : ℕ
-most_bytes = 67108864
-
--- the greatest number of tasks of a script
-abbrev pub most_tasks : ℕ
-most_tasks = 1048576
-
--- the greatest number of edits of a task
-abbrev pub most_edits : ℕ
-most_edits = 65536
 
 -- how many of the tasks are of the lane
 abbrev pub lane_count : ℕ → List Task → ℕ
@@ -48,14 +37,14 @@ next_task tasks lane low high =
 -- the tasks with one more
 unfoldable pub with_task : List Task → ℕ → Point → Point → Result (List Task) ScriptFault
 with_task tasks lane low high =
-    if nat_lt (length tasks) most_tasks then Ok (tasks ++ next_task tasks lane low high ∷ [])
-    else Err (TooMany Tasks (most_tasks + 1))
+    if nat_lt (length tasks) MOST_TASKS then Ok (tasks ++ next_task tasks lane low high ∷ [])
+    else Err (TooMany Tasks (MOST_TASKS + 1))
 
 -- the task with one more edit
 abbrev pub edited : Task → Edit → Result Task ScriptFault
 edited task edit =
-    if nat_lt (length task.edits) most_edits then Ok (record task { edits = task.edits ++ edit ∷ [] })
-    else Err (TooMany Edits (most_edits + 1))
+    if nat_lt (length task.edits) MOST_EDITS then Ok (record task { edits = task.edits ++ edit ∷ [] })
+    else Err (TooMany Edits (MOST_EDITS + 1))
 
 -- the tasks with one more edit of the last, in the line with this number
 unfoldable pub with_edit : ℕ → List Task → Edit → Result (List Task) ScriptFault
@@ -80,8 +69,8 @@ has_words l = nat_lt 0 (length l.words)
 -- the fault of a script where its lines have one
 abbrev pub fault_of_line : LineFault → ScriptFault
 fault_of_line line.Read = Read
-fault_of_line (TooLong at) = TooMany LineBytes (longest + 1)
-fault_of_line (Bytes taken) = TooMany ScriptBytes most_bytes
+fault_of_line (TooLong at) = TooMany LineBytes (MOST_LINE_BYTES + 1)
+fault_of_line (Bytes taken) = TooMany ScriptBytes MOST_SCRIPT_BYTES
 fault_of_line line.Memory = Memory
 
 -- the tasks at the end of the lines, or the fault that stands behind them
@@ -103,5 +92,5 @@ tasks_of tasks flow = tasks_after tasks (filter has_words flow.lines) flow.fault
 -- the tasks of a script, or its first fault: the limit of bytes stands before each fault of the text
 unfoldable pub script_of : List ℕ → Result (List Task) ScriptFault
 script_of bytes =
-    if nat_lt most_bytes (length bytes) then Err (TooMany ScriptBytes most_bytes)
-    else tasks_of [] (told_lines true most_bytes 0 1 bytes)
+    if nat_lt MOST_SCRIPT_BYTES (length bytes) then Err (TooMany ScriptBytes MOST_SCRIPT_BYTES)
+    else tasks_of [] (told_lines true MOST_SCRIPT_BYTES 0 1 bytes)

@@ -1,11 +1,12 @@
 -- What a line of a script says, by its words. Within a line the faults come in the order Word, Words, Number, Lane, Box.
 use Rattle.std.specs.Prelude.{ℕ, ◌^◌, nat_lt, Bool, ◌&&◌, bytes_eq, codes, List, [], ◌∷◌, Option, Some, None, Result, Ok, Err, option_and_then, ℤ, pos, int_le, if◌then◌else◌}
-use Rattle.oemm_lines.specs.Numbers.{whole_of, integer_of}
-use Rattle.mesh_data.specs.Octree.{on_grid}
-use Rattle.mesh_data.specs.declared.geometry.Point.{Point}
+use Rattle.oemm_limits.specs.declared.TheConstants.{LAST_LANE}
+use Rattle.oemm_lines.specs.Numbers.{unsigned_of, integer_of}
+use Rattle.oemm_octree.specs.Octree.{on_grid}
+use Rattle.oemm_octree.specs.declared.points.Point.{Point}
 use Rattle.mesh_data.specs.declared.edits.Edit.TheVariants.{Move, Collapse, Flip, Simplify}
-use Rattle.mesh_data.specs.declared.items.ScriptWhy.{ScriptWhy}
-use Rattle.mesh_data.specs.declared.items.ScriptWhy.TheVariants.{Word, Words, Number, Lane, Box}
+use Rattle.edit_script.specs.declared.fault.ScriptWhy.{ScriptWhy}
+use Rattle.edit_script.specs.declared.fault.ScriptWhy.TheVariants.{Word, Words, Number, Lane, Box}
 use Rattle.edit_script.specs.declared.line.LineMeaning.{LineMeaning}
 use Rattle.edit_script.specs.declared.line.LineMeaning.TheVariants.{TaskLine, EditLine}
 
@@ -31,19 +32,19 @@ point_of first second third = do
 -- the name that a word writes
 unfoldable pub name_of : List ℕ → Option ℕ
 name_of word = do
-  n ← whole_of word
+  n ← unsigned_of word
   if nat_lt n (2 ^ 32) then Some n else None
 
 -- the bound of a cost that a word writes
 unfoldable pub most_of : List ℕ → Option ℤ
 most_of word = do
-  n ← whole_of word
+  n ← unsigned_of word
   if nat_lt (2 ^ 126) n then None else Some (pos n)
 
 -- the number of triangles that a word writes
 unfoldable pub triangles_of : List ℕ → Option ℕ
 triangles_of word = do
-  n ← whole_of word
+  n ← unsigned_of word
   if nat_lt (2 ^ 24) n then None else Some n
 
 -- the low corner is at most the high one along each axis
@@ -53,7 +54,7 @@ is_box low high = int_le low.x high.x && int_le low.y high.y && int_le low.z hig
 -- the task, where the lane is below 64 and the corners are those of a box
 abbrev pub task_within : ℕ → Point → Point → Result LineMeaning ScriptWhy
 task_within lane low high =
-    if nat_lt 63 lane then Err Lane else if is_box low high then Ok (TaskLine lane low high) else Err Box
+    if nat_lt LAST_LANE lane then Err Lane else if is_box low high then Ok (TaskLine lane low high) else Err Box
 
 -- the task of a lane and two corners, where these are numbers
 abbrev pub task_of : Option ℕ → Option Point → Option Point → Result LineMeaning ScriptWhy
@@ -82,7 +83,7 @@ simplify_of _ _ = Err Number
 
 -- what the words behind `task` say
 unfoldable pub task_says : List (List ℕ) → Result LineMeaning ScriptWhy
-task_says (lane ∷ x ∷ y ∷ z ∷ x' ∷ y' ∷ z' ∷ []) = task_of (whole_of lane) (point_of x y z) (point_of x' y' z')
+task_says (lane ∷ x ∷ y ∷ z ∷ x' ∷ y' ∷ z' ∷ []) = task_of (unsigned_of lane) (point_of x y z) (point_of x' y' z')
 task_says _ = Err Words
 
 -- what the words behind `move` say

@@ -1,12 +1,13 @@
 -- The ranges of what a script says.
 use Rattle.std.specs.Prelude.{◌≡◌, ℕ, ◌^◌, ◌<◌, ◌≤◌, ℤ, pos, ◌≤ℤ◌, List, length, All, slice_index, slice_index_or, take, ⊤}
-use Rattle.mesh_data.specs.declared.geometry.Point.{Point}
+use Rattle.oemm_limits.specs.declared.TheConstants.{LAST_LANE, MOST_EDITS, MOST_TASKS}
+use Rattle.oemm_octree.specs.declared.points.Point.{Point}
 use Rattle.mesh_data.specs.declared.edits.Edit.{Edit}
 use Rattle.mesh_data.specs.declared.edits.Edit.TheVariants.{Move, Collapse, Flip, Simplify}
 use Rattle.mesh_data.specs.declared.edits.Task.{Task}
 use Rattle.edit_script.specs.declared.line.LineMeaning.{LineMeaning}
 use Rattle.edit_script.specs.declared.line.LineMeaning.TheVariants.{TaskLine, EditLine}
-use Rattle.edit_script.specs.Grammar.{most_tasks, most_edits, lane_count}
+use Rattle.edit_script.specs.Grammar.{lane_count}
 
 -- the low corner is at most the high one along each axis
 pub record IsBox (low high : Point) : Type 0 where
@@ -28,14 +29,14 @@ IsEdit (Simplify max target) = IsCostBound max × (target ≤ 2 ^ 24)
 
 -- the lane and the box of a task's line are within their ranges, and the numbers of an edit's line
 abbrev pub IsWithin : LineMeaning → Type 0
-IsWithin (TaskLine lane low high) = (lane < 64) × IsBox low high
+IsWithin (TaskLine lane low high) = (lane ≤ LAST_LANE) × IsBox low high
 IsWithin (EditLine edit) = IsEdit edit
 
 -- the task's lane, box and number of edits are within their ranges, and so is each edit
 pub record IsTask (task : Task) : Type 0 where
-  pub lane : task.lane < 64
+  pub lane : task.lane ≤ LAST_LANE
   pub box : IsBox task.low task.high
-  pub few : length task.edits ≤ most_edits
+  pub few : length task.edits ≤ MOST_EDITS
   pub each : All IsEdit task.edits
 
 -- each task's number is that of its lane's tasks before it
@@ -45,7 +46,7 @@ AreNumbered tasks = (k : ℕ) (d : Task) → k < length tasks →
 
 -- the tasks of a script are few, each within its ranges, and numbered by their lanes
 pub record AreTasks (tasks : List Task) : Type 0 where
-  pub few : length tasks ≤ most_tasks
+  pub few : length tasks ≤ MOST_TASKS
   pub each : All IsTask tasks
   pub numbered : AreNumbered tasks
 

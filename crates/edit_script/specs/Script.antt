@@ -1,15 +1,16 @@
 -- What a reader of scripts answers.
 use Rattle.std.specs.Prelude.{◌≡◌, ℕ, List, Result, Ok, Err, ⊤}
+use Rattle.oemm_limits.specs.declared.TheConstants.{MOST_SCRIPT_BYTES}
 use Rattle.fault_counts.specs.Told.{Told, Takes, IsAtEnd}
 use Rattle.oemm_io.specs.declared.whole.TakeFault.{TakeFault}
 use Rattle.oemm_io.specs.declared.whole.TakeFault.TheVariants as take
 use Rattle.oemm_io.specs.declared.whole.TakeFault.TheVariants.{Failed}
-use Rattle.mesh_data.specs.declared.items.What.TheVariants.{ScriptBytes}
+use Rattle.oemm_limits.specs.declared.what.What.TheVariants.{ScriptBytes}
 use Rattle.mesh_data.specs.declared.edits.Task.{Task}
 use Rattle.mesh_data.specs.declared.edits.Script.{Script}
 use Rattle.edit_script.specs.declared.fault.ScriptFault.{ScriptFault}
 use Rattle.edit_script.specs.declared.fault.ScriptFault.TheVariants.{Read, Syntax, TooMany, Memory}
-use Rattle.edit_script.specs.Grammar.{script_of, most_bytes}
+use Rattle.edit_script.specs.Grammar.{script_of}
 
 -- the fault is that of the reading, unless it is want of memory
 abbrev pub StopsBy : {A : Type 0} → ScriptFault → Result A ScriptFault → Type 0
@@ -33,7 +34,7 @@ GivesScript (Err fault) reading = GivesFault fault reading
 -- the fault of a source that can't be taken whole
 abbrev pub fault_of_take : TakeFault → ScriptFault
 fault_of_take Failed = Read
-fault_of_take take.TooMany = TooMany ScriptBytes most_bytes
+fault_of_take take.TooMany = TooMany ScriptBytes MOST_SCRIPT_BYTES
 fault_of_take take.Memory = Memory
 
 -- bytes were taken, to the end, and the script is theirs

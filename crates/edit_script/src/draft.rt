@@ -7,18 +7,15 @@ ghost use Rattle.edit_script.specs.Grammar.{with_task, with_edit, after_line};
 ghost use Rattle.edit_script.specs.Ranges.{IsBox, IsEdit, AreTasks, IsDraft};
 ghost use Rattle.edit_script.specs.Script.{StopsBy};
 
-use crate::fault::ScriptFault;
+use crate::fault::{ScriptFault, ScriptWhy};
 use crate::line::{LineMeaning, line_meaning};
-use mesh_data::{Edit, Lane, List, Point, Script, ScriptWhy, Task, What};
+use mesh_data::{Edit, Lane, Script, Task};
+use oemm_limits::{MOST_EDITS, MOST_TASKS, What};
 use oemm_lines::Line;
+use oemm_lists::List;
+use oemm_octree::Point;
 use std::alloc::Global;
 use std::marker::Model;
-
-/// The greatest number of tasks of a script.
-const MOST_TASKS: usize = 1 << 20;
-
-/// The greatest number of edits of a task.
-const MOST_EDITS: usize = 1 << 16;
 
 /// The tasks read so far, and how many of them each lane has.
 #[derive(Drop)]
@@ -57,7 +54,8 @@ impl Draft {
         requires number { line.now.number < 2 ^ 32 }
         requires places { IsPlaced line.now }
         ensures ok { OnOk result (after_line line.now.number self.old (line_says (texts_of line.now)) ≡ Ok self.new) }
-        ensures err { IfErr result (λ fault. StopsBy fault (after_line line.now.number self.old (line_says (texts_of line.now)))) }
+        ensures err { IfErr result
+            (λ fault. StopsBy fault (after_line line.now.number self.old (line_says (texts_of line.now)))) }
     {
         let number = line.number as u32;
         match line_meaning(line) {

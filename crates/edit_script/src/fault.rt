@@ -2,16 +2,27 @@
 
 ghost use Rattle.std.specs.Prelude.{◌≡◌};
 
-use mesh_data::{ScriptWhy, What};
+use oemm_limits::{MOST_LINE_BYTES, MOST_SCRIPT_BYTES, What};
 use oemm_lines::LineFault;
 use std::alloc::{AllocError, AllocFailed};
 use thiserror::Error;
 
-/// The greatest number of bytes of a script.
-pub const MOST_BYTES: usize = 1 << 26;
-
-/// The greatest number of bytes of a line before its line feed.
-const MOST_LINE_BYTES: u64 = 1 << 16;
+/// What is wrong with a line of a script, in the order in which a line is looked at.
+#[derive(Clone, Copy, Debug, PartialEq, Eq)]
+pub enum ScriptWhy {
+    /// The first word is none of the script's.
+    Word,
+    /// The line has too few or too many words.
+    Words,
+    /// A number isn't in its form or its range.
+    Number,
+    /// The lane is above 63.
+    Lane,
+    /// The box's low corner is above its high one along some axis.
+    Box,
+    /// An edit stands before the first task.
+    NoTask,
+}
 
 /// Why a script can't be read.
 #[derive(Clone, Copy, Debug, PartialEq, Eq, Error)]
@@ -22,8 +33,8 @@ pub enum ScriptFault {
     /// The first fault of the text. `line` counts all lines from 1.
     #[error("fault in line {line}: {why:?}")]
     Syntax { line: u32, why: ScriptWhy },
-    /// A limit is passed: of the bytes of the whole, or before each later fault of the text that of the bytes of a line,
-    /// of the tasks, or of the edits of a task.
+    /// A limit is passed: of the bytes of the whole, or before each later fault of the text that of the bytes of a
+    /// line, of the tasks, or of the edits of a task.
     #[error("too many {what:?}: {count}")]
     TooMany { what: What, count: u64 },
     #[error("no memory")]
@@ -64,7 +75,7 @@ impl From<LineFault> for ScriptFault {
             },
             LineFault::Bytes { .. } => ScriptFault::TooMany {
                 what: What::ScriptBytes,
-                count: MOST_BYTES as u64,
+                count: MOST_SCRIPT_BYTES as u64,
             },
             LineFault::Memory => ScriptFault::Memory,
         }

@@ -1,16 +1,15 @@
 //! Scripts of edits: their grammar and their reader.
 #![tactic(auto)]
 
+mod byte_source;
 mod draft;
 mod fault;
-mod held;
-mod laws;
+pub mod laws;
 mod line;
 mod numbers;
 mod script;
 #[cfg(test)]
 mod tests;
 
-pub use fault::ScriptFault;
-pub use laws::{line_limit_law, script_fault_laws, script_laws, script_limit_laws};
+pub use fault::{ScriptFault, ScriptWhy};
 pub use script::read_script;

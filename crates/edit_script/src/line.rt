@@ -1,14 +1,17 @@
 //! What a line of a script says.
 
 ghost use Rattle.std.specs.Prelude.{◌≡◌, ◌<◌, [], ◌∷◌, length, IfOk, OnOk, IfErr};
-ghost use Rattle.oemm_lines.specs.Numbers.{whole_of};
+ghost use Rattle.oemm_lines.specs.Numbers.{unsigned_of};
 ghost use Rattle.oemm_lines.specs.Stream.{texts_of, IsPlaced};
 ghost use Rattle.edit_script.specs.Ranges.{IsWithin};
 ghost use Rattle.edit_script.specs.Line.{point_of, name_of, most_of, triangles_of, task_within, task_of, move_of, collapse_of, flip_of, simplify_of, task_says, move_says, collapse_says, flip_says, simplify_says, line_says};
 
+use crate::fault::ScriptWhy;
 use crate::numbers::{is_box, most, name, point, triangles};
-use mesh_data::{Edit, Point, ScriptWhy};
-use oemm_lines::{Line, WordsLeft, whole};
+use mesh_data::Edit;
+use oemm_limits::LAST_LANE;
+use oemm_lines::{Line, WordsLeft, unsigned};
+use oemm_octree::Point;
 
 /// What a line says.
 #[derive(Clone, Copy)]
@@ -62,7 +65,7 @@ fn task_within(lane: u128, low: Point, high: Point) -> Result<LineMeaning, Scrip
     ensures value { result ≡ task_within lane low high }
     ensures within { IfOk result IsWithin }
 {
-    if lane > 63 {
+    if lane > u128::from(LAST_LANE) {
         return Err(ScriptWhy::Lane);
     }
     if !is_box(&low, &high) {
@@ -77,11 +80,11 @@ fn task_within(lane: u128, low: Point, high: Point) -> Result<LineMeaning, Scrip
 
 /// The task of a lane's word and two corners' words.
 fn task_of(lane: &[u8], low: &PointWords, high: &PointWords) -> Result<LineMeaning, ScriptWhy>
-    ensures value { result ≡ task_of (whole_of lane.now) (point_of low.now.x.now low.now.y.now low.now.z.now)
+    ensures value { result ≡ task_of (unsigned_of lane.now) (point_of low.now.x.now low.now.y.now low.now.z.now)
         (point_of high.now.x.now high.now.y.now high.now.z.now) }
     ensures within { IfOk result IsWithin }
 {
-    let lane = whole(lane).ok_or(ScriptWhy::Number)?;
+    let lane = unsigned(lane).ok_or(ScriptWhy::Number)?;
     let low = point(low.x, low.y, low.z).ok_or(ScriptWhy::Number)?;
     let high = point(high.x, high.y, high.z).ok_or(ScriptWhy::Number)?;
     task_within(lane, low, high)

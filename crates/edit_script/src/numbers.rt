@@ -4,8 +4,10 @@ ghost use Rattle.std.specs.Prelude.{◌≡◌, ◌^◌, ◌≤◌, IfSome};
 ghost use Rattle.edit_script.specs.Line.{coordinate_of, name_of, most_of, triangles_of, point_of, is_box};
 ghost use Rattle.edit_script.specs.Ranges.{IsCostBound};
 
-use mesh_data::{Name, Point};
-use oemm_lines::{integer, whole};
+use mesh_data::Name;
+use oemm_limits::MOST_ITEMS;
+use oemm_lines::{integer, unsigned};
+use oemm_octree::Point;
 
 /// The coordinate that a word writes.
 #[tactic(auto, unfolding(crate::specs::Line::coordinate_of))]
@@ -37,7 +39,7 @@ pub fn point(x: &[u8], y: &[u8], z: &[u8]) -> Option<Point>
 pub fn name(word: &[u8]) -> Option<Name>
     ensures { result ≡ name_of word.now }
 {
-    let n = whole(word)?;
+    let n = unsigned(word)?;
     if n < 1 << 32 {
         Some(Name(n as u32))
     } else {
@@ -51,7 +53,7 @@ pub fn most(word: &[u8]) -> Option<i128>
     ensures value { result ≡ most_of word.now }
     ensures within { IfSome result IsCostBound }
 {
-    let n = whole(word)?;
+    let n = unsigned(word)?;
     if n <= 1 << 126 { Some(n as i128) } else { None }
 }
 
@@ -59,10 +61,14 @@ pub fn most(word: &[u8]) -> Option<i128>
 #[tactic(auto, unfolding(crate::specs::Line::triangles_of))]
 pub fn triangles(word: &[u8]) -> Option<u32>
     ensures value { result ≡ triangles_of word.now }
-    ensures within { IfSome result (λ n. n ≤ 2 ^ 24) }
+    ensures within { IfSome result (λ n. n ≤ MOST_ITEMS) }
 {
-    let n = whole(word)?;
-    if n <= 1 << 24 { Some(n as u32) } else { None }
+    let n = unsigned(word)?;
+    if n <= u128::from(MOST_ITEMS) {
+        Some(n as u32)
+    } else {
+        None
+    }
 }
 
 /// Whether the low corner is at most the high one along each axis.

@@ -4,15 +4,16 @@ ghost use Rattle.std.specs.Prelude.{◌≡◌, ◌≤◌, ◌^◌, true, OnOk, I
 ghost use Rattle.fault_counts.specs.Counts.{TellsFailure};
 ghost use Rattle.fault_counts.specs.Told.{TakesSome, IsAtEnd};
 ghost use Rattle.oemm_lines.specs.Stream.{fresh_stream};
-ghost use Rattle.edit_script.specs.Grammar.{most_bytes, script_of};
+ghost use Rattle.edit_script.specs.Grammar.{script_of};
 ghost use Rattle.edit_script.specs.Ranges.{AreTasks};
 ghost use Rattle.edit_script.specs.Script.{StopsBy, GivesScript, TakesScript, fault_of_take};
 
+use crate::byte_source::ByteSource;
 use crate::draft::Draft;
-use crate::fault::{MOST_BYTES, ScriptFault};
-use crate::held::HeldBytes;
-use mesh_data::{Script, What};
+use crate::fault::ScriptFault;
+use mesh_data::Script;
 use oemm_io::{Source, TakeFault, take_all};
+use oemm_limits::{MOST_SCRIPT_BYTES, What};
 use oemm_lines::Lines;
 use std::alloc::{AllocError, Global};
 
@@ -29,7 +30,7 @@ pub fn read_script<S: Source>(alloc: Global, source: S) -> (S, Result<Script, Sc
     ensures ok_end { OnOk result.1 (IsAtEnd (S.left result.0)) }
     ensures ranges { IfOk result.1 (λ script. AreTasks script.tasks) }
 {
-    let (source, taken) = take_all(alloc, source, MOST_BYTES);
+    let (source, taken) = take_all(alloc, source, MOST_SCRIPT_BYTES);
     let script = match taken {
         Ok(bytes) => script_of_bytes(alloc, &bytes),
         Err(fault) => Err(fault_of_take(fault)),
@@ -45,18 +46,23 @@ fn fault_of_take(fault: TakeFault) -> ScriptFault
         TakeFault::Failed => ScriptFault::Read,
         TakeFault::TooMany => ScriptFault::TooMany {
             what: What::ScriptBytes,
-            count: MOST_BYTES as u64,
+            count: MOST_SCRIPT_BYTES as u64,
         },
         TakeFault::Memory => ScriptFault::Memory,
     }
 }
 
 /// The lines of these bytes, with comments.
-fn held_lines(alloc: Global, bytes: &[u8]) -> Result<Lines<HeldBytes<'_>>, AllocError>
+fn held_lines(alloc: Global, bytes: &[u8]) -> Result<Lines<ByteSource<'_>>, AllocError>
     ensures bytes { IfOk result (λ lines. lines.source.left.now ≡ bytes.now) }
-    ensures fresh { IfOk result (λ lines. lines ≡ fresh_stream most_bytes true lines.source) }
+    ensures fresh { IfOk result (λ lines. lines ≡ fresh_stream MOST_SCRIPT_BYTES true lines.source) }
 {
-    match Lines::new(alloc, HeldBytes { left: bytes }, MOST_BYTES as u64, true) {
+    match Lines::new(
+        alloc,
+        ByteSource { left: bytes },
+        MOST_SCRIPT_BYTES as u64,
+        true,
+    ) {
         Ok(lines) => Ok(lines),
         Err((_, error)) => Err(error),
     }

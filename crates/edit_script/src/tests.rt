@@ -1,8 +1,10 @@
 ghost use Rattle.std.specs.Prelude.{◌≤◌};
 
-use super::{ScriptFault, read_script};
-use mesh_data::{Edit, Lane, Name, Point, Script, ScriptWhy, What};
+use super::{ScriptFault, ScriptWhy, read_script};
+use mesh_data::{Edit, Lane, Name, Script};
 use oemm_io::MemSource;
+use oemm_limits::What;
+use oemm_octree::Point;
 use std::alloc::{AllocError, Global};
 use std::process::Abort;
 use std::test::Fail;

@@ -4,6 +4,6 @@ pub mod Lines
 pub mod Passed
 pub mod Steps
 pub mod Tried
-pub mod Thinned
+pub mod Simplification
 pub mod EulerLaws
 pub mod Eulers

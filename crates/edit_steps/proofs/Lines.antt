@@ -1,11 +1,11 @@
 -- The lines of a verdict, some of them at a time.
 use Rattle.std.proofs.Common.{◌≡◌, ℕ, ℤ, int_le, not, ◌&&◌, Bool, true, false, cond, find, List, [], ◌∷◌, ◌++◌, Option, Some, None, refl, ◌∙◌, ap}
 use Rattle.std.specs.Option.{option_map_or, is_none}
-use Rattle.mesh_data.specs.declared.geometry.Point.{Point}
+use Rattle.oemm_octree.specs.declared.points.Point.{Point}
 use Rattle.mesh_data.specs.declared.edits.Reply.{Reply}
 use Rattle.mesh_data.specs.declared.edits.Reply.TheVariants.{Border, Link, Closed, Folds, Dear, DoneAt}
 use Rattle.mesh_data.specs.Edits.{first_line, if_any, edge_line, pair_lines, folds_with, cost, collapse_verdict}
-use Rattle.mesh_data.specs.Links.{opposites, least_shared, is_closed_by_three}
+use Rattle.mesh_data.specs.Links.{opposites, link_violation, is_closed_by_three}
 use Rattle.mesh_data.specs.Mesh.{Mesh}
 use Rattle.mesh_data.specs.Rings.{has_closed_ring}
 use Rattle.edit_steps.specs.Lines.{refusal}
@@ -31,7 +31,7 @@ told_by_others ls ms last is = first_line-append ls ms last ∙ ap (λ o. or_els
 abbrev pub link_lines : Mesh → ℕ → ℕ → List (Bool × Reply)
 link_lines m u v =
     (not (has_closed_ring m.tris u), Border)
-    ∷ if_any Link (least_shared m.tris u v)
+    ∷ if_any Link (link_violation m.tris u v)
     ∷ (is_closed_by_three m.tris u && is_closed_by_three m.tris v, Closed)
     ∷ []
 

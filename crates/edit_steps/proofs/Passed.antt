@@ -3,12 +3,12 @@ use Rattle.std.proofs.Common.{◌≡◌, ◌≢◌, ◌==◌, ℕ, ℤ, pos, Boo
 use Rattle.std.proofs.lemmas.Bool.{false≢true, and_parts, eq-eqb, not-true, not-false}
 use Rattle.std.specs.List.{list_all}
 use Rattle.std.specs.Option.{option_map_or, is_none}
-use Rattle.mesh_data.specs.declared.geometry.Point.{Point}
+use Rattle.oemm_octree.specs.declared.points.Point.{Point}
 use Rattle.mesh_data.specs.declared.edits.Edit.TheVariants.{Collapse}
 use Rattle.mesh_data.specs.declared.edits.Reply.{Reply}
 use Rattle.mesh_data.specs.declared.edits.Reply.TheVariants.{Unheld, Frozen, Outside, Link, Folds, Done, DoneAt}
 use Rattle.mesh_data.specs.Edits.{after, collapsed, first_line, if_any, edge_line, is_done, is_held, is_free, pair_lines, folds_with, cost, collapse_verdict, flip_verdict, move_verdict}
-use Rattle.mesh_data.specs.Links.{are_neighbours, opposites, least_shared, is_closed_by_three}
+use Rattle.mesh_data.specs.Links.{are_neighbours, opposites, link_violation, is_closed_by_three}
 use Rattle.mesh_data.specs.Mesh.{Mesh}
 use Rattle.mesh_data.specs.Rings.{has_closed_ring}
 use Rattle.triangle_edits.proofs.Turns.{apexes_differ}
@@ -70,7 +70,7 @@ pair_passed inside m u v ls h =
 -- a collapse that is done is so at its cost
 collapse_done : (inside : Point → Bool) (m : Mesh) (u v : ℕ) (most : ℤ) → is_done (collapse_verdict inside m u v most) ≡ true → (collapse_verdict inside m u v most ≡ DoneAt (cost m u v)) × (list_all (λ l. not l.0) (pair_lines inside m u v ++ (link_lines m u v ++ price_lines m u v most)) ≡ true)
 collapse_done inside m u v most done =
-    let link = some_refuses Link (least_shared m.tris u v) (λ w. refl) in
+    let link = some_refuses Link (link_violation m.tris u v) (λ w. refl) in
     let folds = some_refuses Folds (find (folds_with m u v) m.tris) (λ t. refl) in
     passes (pair_lines inside m u v ++ (link_lines m u v ++ price_lines m u v most)) (DoneAt (cost m u v)) (λ i. link i && (folds i && true)) done
 
@@ -78,7 +78,7 @@ collapse_done inside m u v most done =
 pub record CollapsePassed (inside : Point → Bool) (m : Mesh) (u v : ℕ) : Type 0 where
   pub pair : PairPassed inside m u v
   pub closed : has_closed_ring m.tris u ≡ true
-  pub unshared : least_shared m.tris u v ≡ None
+  pub unshared : link_violation m.tris u v ≡ None
   pub not_three : (is_closed_by_three m.tris u && is_closed_by_three m.tris v) ≡ false
   pub unfolded : find (folds_with m u v) m.tris ≡ None
 
@@ -87,13 +87,13 @@ collapse_passed inside m u v most done =
     let all = (collapse_done inside m u v most done).1 in
     let pair = pair_passed inside m u v (link_lines m u v ++ price_lines m u v most) all in
     let of_ring = and_parts (not (not (has_closed_ring m.tris u))) _ pair.1 in
-    let of_link = and_parts (not (if_any Link (least_shared m.tris u v)).0) _ of_ring.1 in
+    let of_link = and_parts (not (if_any Link (link_violation m.tris u v)).0) _ of_ring.1 in
     let of_three = and_parts (not (is_closed_by_three m.tris u && is_closed_by_three m.tris v)) _ of_link.1 in
     let of_fold = and_parts (not (if_any Folds (find (folds_with m u v) m.tris)).0) _ of_three.1 in
     record {
       pair = pair.0;
       closed = not_not _ of_ring.0;
-      unshared = none_of Link (least_shared m.tris u v) of_link.0;
+      unshared = none_of Link (link_violation m.tris u v) of_link.0;
       not_three = not-true _ of_three.0;
       unfolded = none_of Folds (find (folds_with m u v) m.tris) of_fold.0;
     }

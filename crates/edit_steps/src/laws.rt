@@ -2,7 +2,7 @@
 
 ghost use Rattle.std.specs.Prelude.{◌≡◌, ◌*◌, ℕ, ℤ, Bool, List, length, pos, ◌-ℤ◌, ◌+ℤ◌};
 ghost use Rattle.std.specs.FinMap as finite;
-ghost use Rattle.mesh_data.specs.declared.geometry.Point.{Point};
+ghost use Rattle.oemm_octree.specs.declared.points.Point.{Point};
 ghost use Rattle.mesh_data.specs.declared.edits.Step.{Step};
 ghost use Rattle.mesh_data.specs.Edits.{AreLeastSteps, collapsed_by, simplified};
 ghost use Rattle.mesh_data.specs.Manifold.{IsManifold};
@@ -17,10 +17,10 @@ pub fn euler_laws()
     ensures twice { (m : Mesh) → euler2 m ≡ euler m +ℤ euler m }
 {}
 
-/// What a simplification does: each of its steps is a collapse that is done at its moment, none that is done then is less
-/// by cost and names, and the steps end only where the target is reached or no collapse is done. The steps, one after
-/// another, make its mesh. No other steps are so.
-#[tactic(auto, using(crate::proofs::Thinned::least_of_all, crate::proofs::Thinned::made_of_all, crate::proofs::Thinned::one_least_way))]
+/// What a simplification does: each of its steps is a collapse that is done at its moment, none that is done then is
+/// less by cost and names, and the steps end only where the target is reached or no collapse is done. The steps, one
+/// after another, make its mesh. No other steps are so.
+#[tactic(auto, using(crate::proofs::Simplification::least_of_all, crate::proofs::Simplification::made_of_all, crate::proofs::Simplification::one_least_way))]
 pub fn simplify_laws()
     ensures least { (inside : Point → Bool) (m : Mesh) (most : ℤ) (target : ℕ)
         → AreLeastSteps inside m most target (simplified inside m most target).steps }

@@ -4,10 +4,10 @@ use Rattle.face_rings.proofs.Fans.{distinct_in, fan_of, in_among}
 use Rattle.face_rings.proofs.Members.{append_left, append_right, steps_in}
 use Rattle.face_rings.proofs.Paths.{distinct_parts, ends_later, in_closed, last_of, on_step, parted, path, shorter, starts_before}
 use Rattle.face_rings.proofs.Named.{Unique}
-use Rattle.face_rings.specs.Faces.{Face, Step, ◌∈◌}
+use Rattle.face_rings.specs.Faces.{Face, Leads, ◌∈◌}
 use Rattle.mesh_data.specs.RingChanges.{Splices, along, round}
 use Rattle.mesh_data.specs.Manifold.{HasRing}
-use Rattle.mesh_data.specs.Rings.{IsRing, fewest_names, link, ring_path, steps}
+use Rattle.mesh_data.specs.Rings.{IsRing, fewest_names, link, ring_path, path_edges}
 use Rattle.mesh_data.specs.declared.geometry.Edge.{Edge}
 use Rattle.mesh_data.specs.declared.geometry.Tri.{Tri}
 use Rattle.mesh_data.specs.declared.rings.Ring.{Ring}
@@ -89,8 +89,8 @@ around ts w a m b r one is f g = by r.closed r.names is
         let same : (x ∷ xs) ++ m ∷ y ∷ q ≡ p ++ z ∷ m ∷ y ∷ q = ap (λ ns. ns ++ m ∷ y ∷ q) l.2 ∙ append_assoc p (z ∷ []) (m ∷ y ∷ q) in
         let is1 : IsRing ts w (ring false (p ++ z ∷ m ∷ y ∷ q)) = subst (λ ns. IsRing ts w (ring false ns)) same is in
         let fan1 = fan_of ts w (ring false (p ++ z ∷ m ∷ y ∷ q)) is1 in
-        let in1 : (e : Edge) → e ∈ step z m ∷ step m y ∷ steps (y ∷ q) → e ∈ steps (p ++ z ∷ m ∷ y ∷ q) =
-        λ e i. subst (λ es. e ∈ es) (sym (path p z m y q)) (append_right e (steps (p ++ z ∷ [])) (step z m ∷ step m y ∷ steps (y ∷ q)) i) in
+        let in1 : (e : Edge) → e ∈ step z m ∷ step m y ∷ path_edges (y ∷ q) → e ∈ path_edges (p ++ z ∷ m ∷ y ∷ q) =
+        λ e i. subst (λ es. e ∈ es) (sym (path p z m y q)) (append_right e (path_edges (p ++ z ∷ [])) (step z m ∷ step m y ∷ path_edges (y ∷ q)) i) in
         let za : z ≡ a = prev_is m z a ((fan1 z m).1 (in1 (step z m) (inl refl))) f in
         let yb : y ≡ b = next_is m y b ((fan1 m y).1 (in1 (step m y) (inr (inl refl)))) g in
         passes p q (subst (λ n. IsRing ts w (ring false (p ++ a ∷ m ∷ n ∷ q))) yb (subst (λ n. IsRing ts w (ring false (p ++ n ∷ m ∷ y ∷ q))) za is1))
@@ -126,7 +126,7 @@ beside ts w a b r one is f = by r.closed r.names is
         absurd (dist.2 a (starts_before front a a b ((fan_of ts w (ring false (front ++ a ∷ [])) is a b).0 f)) (inl refl))
     open_by front (x ∷ q) is =
         let fan = fan_of ts w (ring false (front ++ a ∷ x ∷ q)) is in
-        let xb : x ≡ b = one w a x b ((fan a x).1 (subst (λ es. Step a x es) (sym (shorter front a x q)) (append_right (step a x) (steps (front ++ a ∷ [])) (step a x ∷ steps (x ∷ q)) (inl refl)))) f in
+        let xb : x ≡ b = one w a x b ((fan a x).1 (subst (λ es. Leads a x es) (sym (shorter front a x q)) (append_right (step a x) (path_edges (front ++ a ∷ [])) (step a x ∷ path_edges (x ∷ q)) (inl refl)))) f in
         along_by front q (subst (λ n. IsRing ts w (ring false (front ++ a ∷ n ∷ q))) xb is)
 
     by : (shut : Bool) (names : List ℕ) → IsRing ts w (ring shut names) → BesideBy ts w a b

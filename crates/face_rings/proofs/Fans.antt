@@ -2,7 +2,7 @@
 use Rattle.face_rings.proofs.Members.{append_cases, append_left, append_right, filter_from, filter_to, map_from, map_to}
 use Rattle.face_rings.proofs.Named.{Different, IsDistinct}
 use Rattle.face_rings.specs.Faces.{Face, IsFan, Turns, tri, ◌∈◌}
-use Rattle.mesh_data.specs.Rings.{IsRing, are_distinct, fewest_names, from_each_corner, has_step, link, ring_path, steps}
+use Rattle.mesh_data.specs.Rings.{IsRing, are_distinct, fewest_names, from_each_corner, has_path_edge, link, ring_path, path_edges}
 use Rattle.mesh_data.specs.Triangles.{IsProper, same_edge}
 use Rattle.mesh_data.specs.declared.geometry.Edge.{Edge}
 use Rattle.mesh_data.specs.declared.geometry.Tri.{Tri}
@@ -16,14 +16,14 @@ use Rattle.triangle_lists.specs.Names.{among}
 
 -- ---- tests and members
 -- a step that the test finds is a member, and the converse
-pub has_in : (es : List Edge) (e : Edge) → has_step es e ≡ true → e ∈ es
+pub has_in : (es : List Edge) (e : Edge) → has_path_edge es e ≡ true → e ∈ es
 has_in [] e h = absurd (false≢true h)
-has_in (d ∷ es) e h = elim (or_cases (same_edge e d) (has_step es e) h) [ inl it ↦ inl (same_edges e d it) | inr later ↦ inr (has_in es e later) ]
+has_in (d ∷ es) e h = elim (or_cases (same_edge e d) (has_path_edge es e) h) [ inl it ↦ inl (same_edges e d it) | inr later ↦ inr (has_in es e later) ]
 
-pub in_has : (es : List Edge) (e : Edge) → e ∈ es → has_step es e ≡ true
+pub in_has : (es : List Edge) (e : Edge) → e ∈ es → has_path_edge es e ≡ true
 in_has [] e i = absurd i
-in_has (d ∷ es) e (inl f) = or_left (same_edge e d) (has_step es e) (ap (same_edge e) (sym f) ∙ same_itself e)
-in_has (d ∷ es) e (inr j) = or_right (same_edge e d) (has_step es e) (in_has es e j)
+in_has (d ∷ es) e (inl f) = or_left (same_edge e d) (has_path_edge es e) (ap (same_edge e) (sym f) ∙ same_itself e)
+in_has (d ∷ es) e (inr j) = or_right (same_edge e d) (has_path_edge es e) (in_has es e j)
 
 -- and a name
 pub among_in : (ns : List ℕ) (x : ℕ) → among x ns ≡ true → x ∈ ns
@@ -70,7 +70,7 @@ flat_to f (z ∷ zs) x y (inl e) j = append_left y (f z) (flat_map f zs) (subst 
 flat_to f (z ∷ zs) x y (inr i) j = append_right y (f z) (flat_map f zs) (flat_to f zs x y i j)
 
 -- the edges of a link are the faces at its vertex
-pub face_from_link : (ts : List Tri) (v x y : ℕ) → has_step (link v ts) (step x y) ≡ true → Face ts v x y
+pub face_from_link : (ts : List Tri) (v x y : ℕ) → has_path_edge (link v ts) (step x y) ≡ true → Face ts v x y
 unfolding link
 face_from_link ts v x y h =
     let turned = flat_map from_each_corner ts in
@@ -81,7 +81,7 @@ face_from_link ts v x y h =
     let first = eqb-true m.0.a v f.1 in
     (c.0, c.1, subst (λ (e : Edge). Turns c.0 v e.a e.b) (sym m.2) (subst (λ n. Turns c.0 n m.0.b m.0.c) first turns))
 
-pub face_to_link : (ts : List Tri) (v x y : ℕ) → Face ts v x y → has_step (link v ts) (step x y) ≡ true
+pub face_to_link : (ts : List Tri) (v x y : ℕ) → Face ts v x y → has_path_edge (link v ts) (step x y) ≡ true
 unfolding link
 face_to_link ts v x y f =
     let turned = flat_map from_each_corner ts in
@@ -91,8 +91,8 @@ face_to_link ts v x y f =
 -- the steps of a ring are the faces at its vertex
 pub fan_of : (ts : List Tri) (v : ℕ) (r : Ring) → IsRing ts v r → IsFan ts v (ring_path r)
 fan_of ts v r is x y = (
-  (λ f. has_in (steps (ring_path r)) (step x y) (sym (is.along (step x y)) ∙ face_to_link ts v x y f)),
-  (λ i. face_from_link ts v x y (is.along (step x y) ∙ in_has (steps (ring_path r)) (step x y) i)),
+  (λ f. has_in (path_edges (ring_path r)) (step x y) (sym (is.along (step x y)) ∙ face_to_link ts v x y f)),
+  (λ i. face_from_link ts v x y (is.along (step x y) ∙ in_has (path_edges (ring_path r)) (step x y) i)),
 )
 
 -- and a path of different names with these steps is a ring
@@ -101,9 +101,9 @@ ring_of ts v r distinct long fan =
     record {
       distinct = in_distinct r.names distinct;
       long = long;
-      along = λ e. same_answers (has_step (link v ts) e) (has_step (steps (ring_path r)) e)
-          (λ h. in_has (steps (ring_path r)) e ((fan e.a e.b).0 (face_from_link ts v e.a e.b h)))
-          (λ h. face_to_link ts v e.a e.b ((fan e.a e.b).1 (has_in (steps (ring_path r)) e h)));
+      along = λ e. same_answers (has_path_edge (link v ts) e) (has_path_edge (path_edges (ring_path r)) e)
+          (λ h. in_has (path_edges (ring_path r)) e ((fan e.a e.b).0 (face_from_link ts v e.a e.b h)))
+          (λ h. face_to_link ts v e.a e.b ((fan e.a e.b).1 (has_in (path_edges (ring_path r)) e h)));
     }
 
 -- ---- different names

@@ -1,7 +1,7 @@
 -- Members of lists.
 use Rattle.face_rings.specs.Faces.{◌∈◌}
-use Rattle.mesh_data.specs.Ascending.{in_order, placed}
-use Rattle.mesh_data.specs.Rings.{steps}
+use Rattle.oemm_lists.specs.Ascending.{in_order, inserted}
+use Rattle.mesh_data.specs.Rings.{path_edges}
 use Rattle.mesh_data.specs.Triangles.{tri_cmp}
 use Rattle.mesh_data.specs.declared.geometry.Edge.{Edge}
 use Rattle.mesh_data.specs.declared.geometry.Tri.{Tri}
@@ -62,19 +62,19 @@ filter_to p (y ∷ ys) x (inr j) h = cons_past y (filter p ys) x (p y) (filter_t
 
 -- ---- in order
 -- members of a list in which an item was put in its place
-put_from : (s t : Tri) (ts : List Tri) → s ∈ placed tri_cmp t ts → (s ≡ t) ⊎ (s ∈ ts)
+put_from : (s t : Tri) (ts : List Tri) → s ∈ inserted tri_cmp t ts → (s ≡ t) ⊎ (s ∈ ts)
 put_from s t [] (inl e) = inl e
 put_from s t [] (inr j) = absurd j
 put_from s t (y ∷ ys) i =
-    elim (is_le (tri_cmp t y)) as (λ b. s ∈ cond b (t ∷ y ∷ ys) (y ∷ placed tri_cmp t ys) → (s ≡ t) ⊎ (s ∈ y ∷ ys)) [
+    elim (is_le (tri_cmp t y)) as (λ b. s ∈ cond b (t ∷ y ∷ ys) (y ∷ inserted tri_cmp t ys) → (s ≡ t) ⊎ (s ∈ y ∷ ys)) [
       | true ↦ λ on. on
       | false ↦ λ on. elim on [ inl e ↦ inr (inl e) | inr j ↦ elim (put_from s t ys j) [ inl e ↦ inl e | inr k ↦ inr (inr k) ] ]
     ] i
 
-put_to : (s t : Tri) (ts : List Tri) → (s ≡ t) ⊎ (s ∈ ts) → s ∈ placed tri_cmp t ts
+put_to : (s t : Tri) (ts : List Tri) → (s ≡ t) ⊎ (s ∈ ts) → s ∈ inserted tri_cmp t ts
 put_to s t [] i = elim i [ inl e ↦ inl e | inr j ↦ absurd j ]
 put_to s t (y ∷ ys) i =
-    elim (is_le (tri_cmp t y)) as (λ b. s ∈ cond b (t ∷ y ∷ ys) (y ∷ placed tri_cmp t ys)) [
+    elim (is_le (tri_cmp t y)) as (λ b. s ∈ cond b (t ∷ y ∷ ys) (y ∷ inserted tri_cmp t ys)) [
       | true ↦ i
       | false ↦ elim i [ inl e ↦ inr (put_to s t ys (inl e)) | inr j ↦ elim j [ inl e ↦ inl e | inr k ↦ inr (put_to s t ys (inr k)) ] ]
     ]
@@ -91,13 +91,13 @@ in_order_to s (t ∷ ts) (inr j) = put_to s t (in_order tri_cmp ts) (inr (in_ord
 
 -- ---- consecutive names
 -- the steps of a path through a
-pub steps-append : (xs : List ℕ) (a : ℕ) (ys : List ℕ) → steps (xs ++ a ∷ ys) ≡ steps (xs ++ a ∷ []) ++ steps (a ∷ ys)
+pub steps-append : (xs : List ℕ) (a : ℕ) (ys : List ℕ) → path_edges (xs ++ a ∷ ys) ≡ path_edges (xs ++ a ∷ []) ++ path_edges (a ∷ ys)
 steps-append [] a ys = refl
 steps-append (x ∷ []) a ys = refl
 steps-append (x ∷ y ∷ xs) a ys = ap (λ l. step x y ∷ l) (steps-append (y ∷ xs) a ys)
 
 -- both names of a step are names of the list
-pub steps_in : (xs : List ℕ) (e : Edge) → e ∈ steps xs → (e.a ∈ xs) × (e.b ∈ xs)
+pub steps_in : (xs : List ℕ) (e : Edge) → e ∈ path_edges xs → (e.a ∈ xs) × (e.b ∈ xs)
 steps_in [] e i = absurd i
 steps_in (x ∷ []) e i = absurd i
 steps_in (x ∷ y ∷ ys) e (inl f) = (inl (ap (λ (p : Edge). p.a) f), inr (inl (ap (λ (p : Edge). p.b) f)))

@@ -1,8 +1,8 @@
 -- Names and steps of paths.
 use Rattle.face_rings.proofs.Members.{append_cases, append_left, append_right, steps-append}
 use Rattle.face_rings.proofs.Named.{IsDistinct}
-use Rattle.face_rings.specs.Faces.{Step, ◌∈◌}
-use Rattle.mesh_data.specs.Rings.{closed_path, steps}
+use Rattle.face_rings.specs.Faces.{Leads, ◌∈◌}
+use Rattle.mesh_data.specs.Rings.{closed_path, path_edges}
 use Rattle.mesh_data.specs.declared.geometry.Edge.{Edge}
 use Rattle.std.proofs.Common.{List, [], ap, arith, inl, inr, length, refl, subst, sym, ℕ, ◌++◌, ◌∷◌, ◌≡◌, ◌≢◌, ◌≤◌, ◌⊎◌}
 use Rattle.triangle_lists.proofs.Walks.{step}
@@ -13,13 +13,13 @@ not_in u x xs n i e = n (subst (λ z. z ∈ xs) e i)
 
 -- ---- a path through u
 -- the steps before r, beside u, and behind s
-pub path : (p : List ℕ) (r u s : ℕ) (q : List ℕ) → steps (p ++ r ∷ u ∷ s ∷ q) ≡ steps (p ++ r ∷ []) ++ (step r u) ∷ (step u s) ∷ steps (s ∷ q)
+pub path : (p : List ℕ) (r u s : ℕ) (q : List ℕ) → path_edges (p ++ r ∷ u ∷ s ∷ q) ≡ path_edges (p ++ r ∷ []) ++ (step r u) ∷ (step u s) ∷ path_edges (s ∷ q)
 path p r u s q = steps-append p r (u ∷ s ∷ q)
 
 -- a step without u lies on one side
-pub path_in : (p : List ℕ) (r u s : ℕ) (q : List ℕ) (x y : ℕ) → (step x y) ∈ steps (p ++ r ∷ u ∷ s ∷ q) → x ≢ u → y ≢ u → Step x y (steps (p ++ r ∷ [])) ⊎ Step x y (steps (s ∷ q))
+pub path_in : (p : List ℕ) (r u s : ℕ) (q : List ℕ) (x y : ℕ) → (step x y) ∈ path_edges (p ++ r ∷ u ∷ s ∷ q) → x ≢ u → y ≢ u → Leads x y (path_edges (p ++ r ∷ [])) ⊎ Leads x y (path_edges (s ∷ q))
 path_in p r u s q x y i nx ny =
-    elim (append_cases (step x y) (steps (p ++ r ∷ [])) ((step r u) ∷ (step u s) ∷ steps (s ∷ q)) (subst (λ l. (step x y) ∈ l) (path p r u s q) i)) [
+    elim (append_cases (step x y) (path_edges (p ++ r ∷ [])) ((step r u) ∷ (step u s) ∷ path_edges (s ∷ q)) (subst (λ l. (step x y) ∈ l) (path p r u s q) i)) [
       | inl j ↦ inl j
       | inr (inl e) ↦ absurd (ny (ap (λ (z : Edge). z.b) e))
       | inr (inr (inl e)) ↦ absurd (nx (ap (λ (z : Edge). z.a) e))
@@ -41,7 +41,7 @@ distinct_parts (x ∷ xs) ys (h, d) =
     (((λ i. h (append_left x xs ys i)), r.0), r.1, λ z i j. elim i [ inl e ↦ h (append_right x xs ys (subst (λ w. w ∈ ys) e j)) | inr k ↦ r.2 z k j ])
 
 -- a name of a loop has a next one
-pub next_of : (xs : List ℕ) (z x : ℕ) → x ∈ xs → (y : ℕ) × Step x y (steps (xs ++ z ∷ []))
+pub next_of : (xs : List ℕ) (z x : ℕ) → x ∈ xs → (y : ℕ) × Leads x y (path_edges (xs ++ z ∷ []))
 next_of [] z x i = absurd i
 next_of (w ∷ []) z x (inl e) = (z, inl (ap (λ n. step n z) e))
 next_of (w ∷ []) z x (inr j) = absurd j
@@ -50,7 +50,7 @@ next_of (w ∷ y ∷ ys) z x (inr j) = let r = next_of (y ∷ ys) z x j in (r.0,
 
 -- ---- the two opposite names lose u
 -- the steps before a, from a to b, and behind b
-pub shorter : (p : List ℕ) (a b : ℕ) (q : List ℕ) → steps (p ++ a ∷ b ∷ q) ≡ steps (p ++ a ∷ []) ++ (step a b) ∷ steps (b ∷ q)
+pub shorter : (p : List ℕ) (a b : ℕ) (q : List ℕ) → path_edges (p ++ a ∷ b ∷ q) ≡ path_edges (p ++ a ∷ []) ++ (step a b) ∷ path_edges (b ∷ q)
 shorter p a b q = steps-append p a (b ∷ q)
 
 -- the names before one of them, and those behind it
@@ -65,7 +65,7 @@ last_of x [] = ([], x, refl)
 last_of x (z ∷ zs) = let r = last_of z zs in (x ∷ r.0, r.1, ap (λ l. x ∷ l) r.2)
 
 -- a name of a path of two names or more has a step
-pub on_step : (xs : List ℕ) (x : ℕ) → 2 ≤ length xs → x ∈ xs → (y : ℕ) × (Step x y (steps xs) ⊎ Step y x (steps xs))
+pub on_step : (xs : List ℕ) (x : ℕ) → 2 ≤ length xs → x ∈ xs → (y : ℕ) × (Leads x y (path_edges xs) ⊎ Leads y x (path_edges xs))
 on_step [] x long i = absurd i
 on_step (a ∷ []) x long i = absurd (omega (arith, long))
 on_step (a ∷ b ∷ xs) x long (inl e) = (b, inl (inl (ap (λ n. step n b) e)))
@@ -74,19 +74,19 @@ on_step (a ∷ b ∷ []) x long (inr (inr k)) = absurd k
 on_step (a ∷ b ∷ c ∷ xs) x long (inr j) = let r = on_step (b ∷ c ∷ xs) x (omega arith) j in (r.0, elim r.1 [ inl i ↦ inl (inr i) | inr i ↦ inr (inr i) ])
 
 -- a name behind the first has a step that leads to it
-pub prev_of : (z : ℕ) (xs : List ℕ) (x : ℕ) → x ∈ xs → (y : ℕ) × Step y x (steps (z ∷ xs))
+pub prev_of : (z : ℕ) (xs : List ℕ) (x : ℕ) → x ∈ xs → (y : ℕ) × Leads y x (path_edges (z ∷ xs))
 prev_of z [] x i = absurd i
 prev_of z (a ∷ xs) x (inl e) = (z, inl (ap (λ n. step z n) e))
 prev_of z (a ∷ xs) x (inr j) = let r = prev_of a xs x j in (r.0, inr r.1)
 
 -- a step leads to a name behind the first
-pub ends_later : (z : ℕ) (xs : List ℕ) (x y : ℕ) → Step x y (steps (z ∷ xs)) → y ∈ xs
+pub ends_later : (z : ℕ) (xs : List ℕ) (x y : ℕ) → Leads x y (path_edges (z ∷ xs)) → y ∈ xs
 ends_later z [] x y i = absurd i
 ends_later z (a ∷ xs) x y (inl e) = inl (ap (λ (d : Edge). d.b) e)
 ends_later z (a ∷ xs) x y (inr j) = inr (ends_later a xs x y j)
 
 -- and starts at one before the last
-pub starts_before : (xs : List ℕ) (z x y : ℕ) → Step x y (steps (xs ++ z ∷ [])) → x ∈ xs
+pub starts_before : (xs : List ℕ) (z x y : ℕ) → Leads x y (path_edges (xs ++ z ∷ [])) → x ∈ xs
 starts_before [] z x y i = absurd i
 starts_before (a ∷ []) z x y (inl e) = inl (ap (λ (d : Edge). d.a) e)
 starts_before (a ∷ []) z x y (inr j) = absurd j

@@ -3,8 +3,8 @@ use Rattle.face_rings.proofs.Faces.{Apart, has_turns}
 use Rattle.face_rings.proofs.Fans.{flat_from, flat_to}
 use Rattle.face_rings.proofs.Members.{filter_from}
 use Rattle.face_rings.proofs.Named.{Different, Unique}
-use Rattle.face_rings.specs.Faces.{Face, Step, Turns, tri, ◌∈◌}
-use Rattle.mesh_data.specs.Ascending.{in_order, placed}
+use Rattle.face_rings.specs.Faces.{Face, Leads, Turns, tri, ◌∈◌}
+use Rattle.oemm_lists.specs.Ascending.{in_order, inserted}
 use Rattle.mesh_data.specs.Links.{has_both}
 use Rattle.mesh_data.specs.Manifold.{IsEachEdgeOnce}
 use Rattle.mesh_data.specs.Triangles.{IsProper, directed_edges, has_corner, same_edge, sides, tri_cmp, turned}
@@ -73,12 +73,12 @@ unfolding tally
 tally-cons p t ts = often-append p (sides t) (directed_edges ts)
 
 -- order changes no tally
-tally-placed : (p : Edge → Bool) (t : Tri) (ts : List Tri) → tally p (placed tri_cmp t ts) ≡ often p (sides t) + tally p ts
+tally-placed : (p : Edge → Bool) (t : Tri) (ts : List Tri) → tally p (inserted tri_cmp t ts) ≡ often p (sides t) + tally p ts
 tally-placed p t [] = tally-cons p t []
 tally-placed p t (s ∷ ss) =
-    elim (is_le (tri_cmp t s)) as (λ b. tally p (cond b (t ∷ s ∷ ss) (s ∷ placed tri_cmp t ss)) ≡ often p (sides t) + tally p (s ∷ ss)) [
+    elim (is_le (tri_cmp t s)) as (λ b. tally p (cond b (t ∷ s ∷ ss) (s ∷ inserted tri_cmp t ss)) ≡ often p (sides t) + tally p (s ∷ ss)) [
       | true ↦ tally-cons p t (s ∷ ss)
-      | false ↦ omega (arith, tally-cons p s (placed tri_cmp t ss), tally-placed p t ss, tally-cons p s ss)
+      | false ↦ omega (arith, tally-cons p s (inserted tri_cmp t ss), tally-placed p t ss, tally-cons p s ss)
     ]
 
 pub tally-in_order : (p : Edge → Bool) (ts : List Tri) → tally p (in_order tri_cmp ts) ≡ tally p ts
@@ -111,7 +111,7 @@ side_turns t d (inr (inl e)) = (t.a, inr (inr (ap (λ (f : Edge). tri t.a f.a f.
 side_turns t d (inr (inr (inl e))) = (t.b, inr (inl (ap (λ (f : Edge). tri f.b t.b f.a) (sym e))))
 side_turns t d (inr (inr (inr j))) = absurd j
 
-turns_side : (t : Tri) (a b c : ℕ) → Turns t a b c → Step a b (sides t)
+turns_side : (t : Tri) (a b c : ℕ) → Turns t a b c → Leads a b (sides t)
 turns_side t a b c (inl e) = inl (ap (λ (s : Tri). step s.a s.b) (sym e))
 turns_side t a b c (inr (inl e)) = inr (inr (inl (ap (λ (s : Tri). step s.c s.a) (sym e))))
 turns_side t a b c (inr (inr e)) = inr (inl (ap (λ (s : Tri). step s.b s.c) (sym e)))
@@ -123,7 +123,7 @@ edge_face ts d i =
     let t = side_turns m.0 d m.2 in
     (t.0, (m.0, m.1, t.1))
 
-pub face_edge : (ts : List Tri) (a b c : ℕ) → Face ts a b c → Step a b (directed_edges ts)
+pub face_edge : (ts : List Tri) (a b c : ℕ) → Face ts a b c → Leads a b (directed_edges ts)
 face_edge ts a b c f = flat_to sides ts f.0 (step a b) f.1 (turns_side f.0 a b c f.2)
 
 -- an edge that comes at all has a face, and the converse

@@ -2,7 +2,7 @@
 use Rattle.std.specs.Prelude.{◌≡◌, ◌⊎◌, ◌↔◌, ℕ, List, [], ◌∷◌}
 use Rattle.mesh_data.specs.declared.geometry.Edge.{Edge}
 use Rattle.mesh_data.specs.declared.geometry.Tri.{Tri}
-use Rattle.mesh_data.specs.Rings.{steps}
+use Rattle.mesh_data.specs.Rings.{path_edges}
 
 -- the list has the value: `Contains`, by recursion on the list
 infix 4 ◌∈◌
@@ -23,12 +23,12 @@ abbrev pub Face : List Tri → ℕ → ℕ → ℕ → Type 0
 Face ts a b c = (t : Tri) × (t ∈ ts) × Turns t a b c
 
 -- the step from x to y is one of these
-abbrev pub Step : ℕ → ℕ → List Edge → Type 0
-Step x y es = let e : Edge = record { a = x; b = y } in e ∈ es
+abbrev pub Leads : ℕ → ℕ → List Edge → Type 0
+Leads x y es = let e : Edge = record { a = x; b = y } in e ∈ es
 
 -- the faces at v are the steps of this path
 abbrev pub IsFan : List Tri → ℕ → List ℕ → Type 0
-IsFan ts v path = (x y : ℕ) → Face ts v x y ↔ Step x y (steps path)
+IsFan ts v path = (x y : ℕ) → Face ts v x y ↔ Leads x y (path_edges path)
 
 -- a face has the directed edge, and none has the one back
 pub record IsBorder (ts : List Tri) (a b : ℕ) : Type 0 where

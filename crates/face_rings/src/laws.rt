@@ -22,8 +22,8 @@ pub fn face_laws()
 {}
 
 /// Where each triangle has three different names and no directed edge is in two triangles, a face has three different
-/// names, and two names in a row have one third name. As many triangles have two names as have the directed edges between
-/// them.
+/// names, and two names in a row have one third name. As many triangles have two names as have the directed edges
+/// between them.
 pub fn oriented_laws()
     ensures proper { (ts : List Tri) (a b c : ℕ) → IsOriented ts → Face ts a b c → IsProper (tri a b c) }
     ensures alone { (ts : List Tri) (a b c d : ℕ) → IsOriented ts → Face ts a b c → Face ts a b d → c ≡ d }

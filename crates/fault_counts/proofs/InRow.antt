@@ -25,14 +25,14 @@ pub takes_some_none : (left : Told) → TakesSome left left
 takes_some_none left = ([], takes_none left)
 
 -- no byte was put
-pub puts_none : (held : Told) → Puts held held []
+pub puts_none : (written : Told) → Puts written written []
 puts_none None = refl
-puts_none (Some held) = ap Some (sym (append-nil held))
+puts_none (Some written) = ap Some (sym (append-nil written))
 
 -- the bytes of two puts were put
 pub puts_more :
     (old mid new : Told) (first second : List ℕ) → Puts old mid first → Puts mid new second →
     Puts old new (first ++ second)
-puts_more None mid new first second h i = i ∙ ap (option_map (λ (held : List ℕ). held ++ second)) h
-puts_more (Some held) mid new first second h i =
-    i ∙ ap (option_map (λ (bytes : List ℕ). bytes ++ second)) h ∙ ap Some (append_assoc held first second)
+puts_more None mid new first second h i = i ∙ ap (option_map (λ (written : List ℕ). written ++ second)) h
+puts_more (Some written) mid new first second h i =
+    i ∙ ap (option_map (λ (bytes : List ℕ). bytes ++ second)) h ∙ ap Some (append_assoc written first second)

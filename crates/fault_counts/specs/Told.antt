@@ -23,10 +23,10 @@ IsLeftAlone left left' faults faults' = (left' ≡ left) × (faults' ≡ faults)
 abbrev pub IsAtEnd : Told → Type 0
 IsAtEnd left = IfSome left (λ rest. rest ≡ [])
 
--- these bytes were put: what is held is what was held and they
+-- these bytes were put: what is written is what was written and they
 abbrev pub Puts : Told → Told → List ℕ → Type 0
-Puts old new bytes = new ≡ option_map (λ held. held ++ bytes) old
+Puts old new bytes = new ≡ option_map (λ written. written ++ bytes) old
 
--- a front of these bytes was put
-abbrev pub PutsFront : Told → Told → List ℕ → Type 0
-PutsFront old new bytes = (n : ℕ) × (n ≤ length bytes) × Puts old new (take n bytes)
+-- a prefix of these bytes was put
+abbrev pub PutsPrefix : Told → Told → List ℕ → Type 0
+PutsPrefix old new bytes = (n : ℕ) × (n ≤ length bytes) × Puts old new (take n bytes)

@@ -22,7 +22,7 @@ pub fn told_laws()
     ensures takes { (old mid new : Told) (first second : List ℕ) → Takes old mid first → Takes mid new second
         → Takes old new (first ++ second) }
     ensures takes_some { (old mid new : Told) → TakesSome old mid → TakesSome mid new → TakesSome old new }
-    ensures puts_none { (held : Told) → Puts held held [] }
+    ensures puts_none { (written : Told) → Puts written written [] }
     ensures puts { (old mid new : Told) (first second : List ℕ) → Puts old mid first → Puts mid new second
         → Puts old new (first ++ second) }
 {}

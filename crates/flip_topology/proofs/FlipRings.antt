@@ -7,11 +7,11 @@ use Rattle.face_rings.proofs.Fans.{distinct_in, fan_of, ring_of}
 use Rattle.face_rings.proofs.Members.{append_cases, append_left, append_right, steps_in}
 use Rattle.face_rings.proofs.Paths.{distinct_drop, distinct_insert, distinct_parts, ends_later, not_in, path, path_in, shorter, starts_before}
 use Rattle.face_rings.proofs.Named.{IsDistinct}
-use Rattle.face_rings.specs.Faces.{Face, IsFan, Step, ◌∈◌}
+use Rattle.face_rings.specs.Faces.{Face, IsFan, Leads, ◌∈◌}
 use Rattle.mesh_data.specs.RingChanges.{FlipsEdges, HasEdge, Splices, along, round}
 use Rattle.flip_topology.proofs.FlipFaces.{Flips, IsTurn, Sides, other_flips, other_sides}
 use Rattle.mesh_data.specs.Manifold.{is_corner}
-use Rattle.mesh_data.specs.Rings.{IsRing, ring_path, steps}
+use Rattle.mesh_data.specs.Rings.{IsRing, ring_path, path_edges}
 use Rattle.mesh_data.specs.declared.geometry.Edge.{Edge}
 use Rattle.mesh_data.specs.declared.geometry.Tri.{Tri}
 use Rattle.mesh_data.specs.declared.rings.Ring.{Ring}
@@ -48,14 +48,14 @@ module _ (ts us : List Tri) (a b c d : ℕ) (s : Sides ts a b c d) (k : Flips ts
   drop_b : (p q : List ℕ) → IsFan ts a (p ++ d ∷ b ∷ c ∷ q) → (b ∈ p ++ d ∷ [] → ⊥) → (b ∈ c ∷ q → ⊥) → IsFan us a (p ++ d ∷ c ∷ q)
   drop_b p q fan np nq x y = (to, from)
     where
-      new : (Step x y (steps (p ++ d ∷ [])) ⊎ ((step x y ≡ step d c) ⊎ Step x y (steps (c ∷ q)))) → Step x y (steps (p ++ d ∷ c ∷ q))
-      new i = subst (λ es. Step x y es) (sym (shorter p d c q)) (elim i [
-        | inl j ↦ append_left (step x y) (steps (p ++ d ∷ [])) (step d c ∷ steps (c ∷ q)) j
-        | inr (inl e) ↦ append_right (step x y) (steps (p ++ d ∷ [])) (step d c ∷ steps (c ∷ q)) (inl e)
-        | inr (inr j) ↦ append_right (step x y) (steps (p ++ d ∷ [])) (step d c ∷ steps (c ∷ q)) (inr j)
+      new : (Leads x y (path_edges (p ++ d ∷ [])) ⊎ ((step x y ≡ step d c) ⊎ Leads x y (path_edges (c ∷ q)))) → Leads x y (path_edges (p ++ d ∷ c ∷ q))
+      new i = subst (λ es. Leads x y es) (sym (shorter p d c q)) (elim i [
+        | inl j ↦ append_left (step x y) (path_edges (p ++ d ∷ [])) (step d c ∷ path_edges (c ∷ q)) j
+        | inr (inl e) ↦ append_right (step x y) (path_edges (p ++ d ∷ [])) (step d c ∷ path_edges (c ∷ q)) (inl e)
+        | inr (inr j) ↦ append_right (step x y) (path_edges (p ++ d ∷ [])) (step d c ∷ path_edges (c ∷ q)) (inr j)
       ])
 
-      to : Face us a x y → Step x y (steps (p ++ d ∷ c ∷ q))
+      to : Face us a x y → Leads x y (path_edges (p ++ d ∷ c ∷ q))
       to f = elim (k.from a x y f) [
         | inl (g, n) ↦
             let nx : x ≢ b = λ e. n (inl refl) (inr (inl (sym e))) in
@@ -69,16 +69,16 @@ module _ (ts us : List Tri) (a b c d : ℕ) (s : Sides ts a b c d) (k : Flips ts
         | inr (inr t) ↦ elim (turn_at a x y d b c t) [ inl e ↦ absurd (ad e.0) | inr (inl e) ↦ absurd (ab e.0) | inr (inr e) ↦ absurd (ca (sym e.0)) ]
       ]
 
-      old : Step x y (steps (p ++ d ∷ b ∷ c ∷ q)) → x ≢ b → y ≢ b → Face us a x y
+      old : Leads x y (path_edges (p ++ d ∷ b ∷ c ∷ q)) → x ≢ b → y ≢ b → Face us a x y
       old j nx ny = k.kept a x y ((fan x y).1 j) (λ i m. elim m [ inl e ↦ ab (sym e) | inr (inl e) ↦ nx (sym e) | inr (inr e) ↦ ny (sym e) ])
 
-      from : Step x y (steps (p ++ d ∷ c ∷ q)) → Face us a x y
-      from i = elim (append_cases (step x y) (steps (p ++ d ∷ [])) (step d c ∷ steps (c ∷ q)) (subst (λ es. Step x y es) (shorter p d c q) i)) [
+      from : Leads x y (path_edges (p ++ d ∷ c ∷ q)) → Face us a x y
+      from i = elim (append_cases (step x y) (path_edges (p ++ d ∷ [])) (step d c ∷ path_edges (c ∷ q)) (subst (λ es. Leads x y es) (shorter p d c q) i)) [
         | inl j ↦ let m = steps_in (p ++ d ∷ []) (step x y) j in
-            old (subst (λ es. Step x y es) (sym (path p d b c q)) (append_left (step x y) (steps (p ++ d ∷ [])) (step d b ∷ step b c ∷ steps (c ∷ q)) j)) (not_in b x (p ++ d ∷ []) np m.0) (not_in b y (p ++ d ∷ []) np m.1)
+            old (subst (λ es. Leads x y es) (sym (path p d b c q)) (append_left (step x y) (path_edges (p ++ d ∷ [])) (step d b ∷ step b c ∷ path_edges (c ∷ q)) j)) (not_in b x (p ++ d ∷ []) np m.0) (not_in b y (p ++ d ∷ []) np m.1)
         | inr (inl e) ↦ three us a d c a x y refl (sym (ap (λ (g : Edge). g.a) e)) (sym (ap (λ (g : Edge). g.b) e)) k.left
         | inr (inr j) ↦ let m = steps_in (c ∷ q) (step x y) j in
-            old (subst (λ es. Step x y es) (sym (path p d b c q)) (append_right (step x y) (steps (p ++ d ∷ [])) (step d b ∷ step b c ∷ steps (c ∷ q)) (inr (inr j)))) (not_in b x (c ∷ q) nq m.0) (not_in b y (c ∷ q) nq m.1)
+            old (subst (λ es. Leads x y es) (sym (path p d b c q)) (append_right (step x y) (path_edges (p ++ d ∷ [])) (step d b ∷ step b c ∷ path_edges (c ∷ q)) (inr (inr j)))) (not_in b x (c ∷ q) nq m.0) (not_in b y (c ∷ q) nq m.1)
       ]
 
   -- by where b stands in the ring
@@ -110,17 +110,17 @@ module _ (ts us : List Tri) (a b c d : ℕ) (s : Sides ts a b c d) (k : Flips ts
   insert_d : (p q : List ℕ) → IsFan ts c (p ++ a ∷ b ∷ q) → (a ∈ p → ⊥) → (b ∈ q → ⊥) → IsFan us c (p ++ a ∷ d ∷ b ∷ q)
   insert_d p q fan np nq x y = (to, from)
     where
-      new : (Step x y (steps (p ++ a ∷ [])) ⊎ (((step x y ≡ step a d) ⊎ (step x y ≡ step d b)) ⊎ Step x y (steps (b ∷ q)))) → Step x y (steps (p ++ a ∷ d ∷ b ∷ q))
-      new i = subst (λ es. Step x y es) (sym (path p a d b q)) (elim i [
-        | inl j ↦ append_left (step x y) (steps (p ++ a ∷ [])) (step a d ∷ step d b ∷ steps (b ∷ q)) j
-        | inr (inl (inl e)) ↦ append_right (step x y) (steps (p ++ a ∷ [])) (step a d ∷ step d b ∷ steps (b ∷ q)) (inl e)
-        | inr (inl (inr e)) ↦ append_right (step x y) (steps (p ++ a ∷ [])) (step a d ∷ step d b ∷ steps (b ∷ q)) (inr (inl e))
-        | inr (inr j) ↦ append_right (step x y) (steps (p ++ a ∷ [])) (step a d ∷ step d b ∷ steps (b ∷ q)) (inr (inr j))
+      new : (Leads x y (path_edges (p ++ a ∷ [])) ⊎ (((step x y ≡ step a d) ⊎ (step x y ≡ step d b)) ⊎ Leads x y (path_edges (b ∷ q)))) → Leads x y (path_edges (p ++ a ∷ d ∷ b ∷ q))
+      new i = subst (λ es. Leads x y es) (sym (path p a d b q)) (elim i [
+        | inl j ↦ append_left (step x y) (path_edges (p ++ a ∷ [])) (step a d ∷ step d b ∷ path_edges (b ∷ q)) j
+        | inr (inl (inl e)) ↦ append_right (step x y) (path_edges (p ++ a ∷ [])) (step a d ∷ step d b ∷ path_edges (b ∷ q)) (inl e)
+        | inr (inl (inr e)) ↦ append_right (step x y) (path_edges (p ++ a ∷ [])) (step a d ∷ step d b ∷ path_edges (b ∷ q)) (inr (inl e))
+        | inr (inr j) ↦ append_right (step x y) (path_edges (p ++ a ∷ [])) (step a d ∷ step d b ∷ path_edges (b ∷ q)) (inr (inr j))
       ])
 
-      to : Face us c x y → Step x y (steps (p ++ a ∷ d ∷ b ∷ q))
+      to : Face us c x y → Leads x y (path_edges (p ++ a ∷ d ∷ b ∷ q))
       to f = elim (k.from c x y f) [
-        | inl (g, n) ↦ elim (append_cases (step x y) (steps (p ++ a ∷ [])) (step a b ∷ steps (b ∷ q)) (subst (λ es. Step x y es) (shorter p a b q) ((fan x y).0 g))) [
+        | inl (g, n) ↦ elim (append_cases (step x y) (path_edges (p ++ a ∷ [])) (step a b ∷ path_edges (b ∷ q)) (subst (λ es. Leads x y es) (shorter p a b q) ((fan x y).0 g))) [
           | inl j ↦ new (inl j)
           | inr (inl e) ↦ absurd (n (inr (inl (sym (ap (λ (h : Edge). h.a) e)))) (inr (inr (sym (ap (λ (h : Edge). h.b) e)))))
           | inr (inr j) ↦ new (inr (inr j))
@@ -135,7 +135,7 @@ module _ (ts us : List Tri) (a b c d : ℕ) (s : Sides ts a b c d) (k : Flips ts
       ends z (inr (inl e)) n = inl (sym e)
       ends z (inr (inr e)) n = inr (sym e)
 
-      old : Step x y (steps (p ++ a ∷ b ∷ q)) → ((x ≡ a) → (y ≡ b) → ⊥) → Face us c x y
+      old : Leads x y (path_edges (p ++ a ∷ b ∷ q)) → ((x ≡ a) → (y ≡ b) → ⊥) → Face us c x y
       old j no_ab =
           let g = (fan x y).1 j in
           k.kept c x y g (λ i m. elim (ends a i (λ e. ca (sym e))) [
@@ -146,12 +146,12 @@ module _ (ts us : List Tri) (a b c d : ℕ) (s : Sides ts a b c d) (k : Flips ts
             ]
           ])
 
-      from : Step x y (steps (p ++ a ∷ d ∷ b ∷ q)) → Face us c x y
-      from i = elim (append_cases (step x y) (steps (p ++ a ∷ [])) (step a d ∷ step d b ∷ steps (b ∷ q)) (subst (λ es. Step x y es) (path p a d b q) i)) [
-        | inl j ↦ old (subst (λ es. Step x y es) (sym (shorter p a b q)) (append_left (step x y) (steps (p ++ a ∷ [])) (step a b ∷ steps (b ∷ q)) j)) (λ xa yb. np (subst (λ z. z ∈ p) xa (starts_before p a x y j)))
+      from : Leads x y (path_edges (p ++ a ∷ d ∷ b ∷ q)) → Face us c x y
+      from i = elim (append_cases (step x y) (path_edges (p ++ a ∷ [])) (step a d ∷ step d b ∷ path_edges (b ∷ q)) (subst (λ es. Leads x y es) (path p a d b q) i)) [
+        | inl j ↦ old (subst (λ es. Leads x y es) (sym (shorter p a b q)) (append_left (step x y) (path_edges (p ++ a ∷ [])) (step a b ∷ path_edges (b ∷ q)) j)) (λ xa yb. np (subst (λ z. z ∈ p) xa (starts_before p a x y j)))
         | inr (inl e) ↦ three us c a d c x y refl (sym (ap (λ (g : Edge). g.a) e)) (sym (ap (λ (g : Edge). g.b) e)) (Face_back us a d c k.left)
         | inr (inr (inl e)) ↦ three us c d b c x y refl (sym (ap (λ (g : Edge). g.a) e)) (sym (ap (λ (g : Edge). g.b) e)) (Face_back us d b c k.right)
-        | inr (inr (inr j)) ↦ old (subst (λ es. Step x y es) (sym (shorter p a b q)) (append_right (step x y) (steps (p ++ a ∷ [])) (step a b ∷ steps (b ∷ q)) (inr j))) (λ xa yb. nq (subst (λ z. z ∈ q) yb (ends_later b q x y j)))
+        | inr (inr (inr j)) ↦ old (subst (λ es. Leads x y es) (sym (shorter p a b q)) (append_right (step x y) (path_edges (p ++ a ∷ [])) (step a b ∷ path_edges (b ∷ q)) (inr j))) (λ xa yb. nq (subst (λ z. z ∈ q) yb (ends_later b q x y j)))
       ]
 
   -- d isn't near c before

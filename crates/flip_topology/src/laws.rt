@@ -1,7 +1,7 @@
 //! What a flip keeps, and what it makes of rings and of directed edges.
 
 ghost use Rattle.std.specs.Prelude.{◌≡◌, ℕ, Bool, List, Some, length, true};
-ghost use Rattle.mesh_data.specs.declared.geometry.Point.{Point};
+ghost use Rattle.oemm_octree.specs.declared.points.Point.{Point};
 ghost use Rattle.mesh_data.specs.declared.geometry.Tri.{Tri};
 ghost use Rattle.mesh_data.specs.Edits.{flip_verdict, flipped, flipped_tris, is_done};
 ghost use Rattle.mesh_data.specs.Keeps.{Keeps};
@@ -31,8 +31,8 @@ pub fn flip_list_laws()
         → HasRing ts a × HasRing ts b × HasRing ts c × HasRing ts d }
 {}
 
-/// A flip that is done is one that the triangles allow. On a manifold it keeps the manifold, its Euler characteristic and
-/// its border, and this becomes of the directed edges and of each ring.
+/// A flip that is done is one that the triangles allow. On a manifold it keeps the manifold, its Euler characteristic
+/// and its border, and this becomes of the directed edges and of each ring.
 pub fn flip_mesh_laws()
     ensures allowed { (inside : Point → Bool) (m : Mesh) (a b : ℕ) → is_done (flip_verdict inside m a b) ≡ true
         → (c : ℕ) × (d : ℕ) × MayFlip m.tris a b c d }

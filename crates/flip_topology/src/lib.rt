@@ -1,6 +1,4 @@
 //! A flip that is done keeps the manifold.
 #![tactic(auto)]
 
-mod laws;
-
-pub use laws::{flip_list_laws, flip_mesh_laws};
+pub mod laws;

@@ -5,7 +5,7 @@ use Rattle.std.specs.Option.{option_map_or, is_none}
 use Rattle.std.specs.FinMap as finite
 use Rattle.std.specs.Ordering.{nat_cmp, int_cmp, ordering_then, is_le}
 use Rattle.std.specs.declared.cmp.Ordering.{Ordering}
-use Rattle.mesh_data.specs.declared.geometry.Point.{Point}
+use Rattle.oemm_octree.specs.declared.points.Point.{Point}
 use Rattle.mesh_data.specs.declared.geometry.Tri.{Tri}
 use Rattle.mesh_data.specs.declared.planes.Plane.{Plane}
 use Rattle.mesh_data.specs.declared.edits.Edit.{Edit}
@@ -13,8 +13,8 @@ use Rattle.mesh_data.specs.declared.edits.Edit.TheVariants.{Move, Collapse, Flip
 use Rattle.mesh_data.specs.declared.edits.Step.{Step}
 use Rattle.mesh_data.specs.declared.edits.Reply.{Reply}
 use Rattle.mesh_data.specs.declared.edits.Reply.TheVariants.{Unheld, Frozen, Same, Apart, Border, Link, Closed, Folds, Dear, Edge, Outside, Done, DoneAt, Simplified}
-use Rattle.mesh_data.specs.Ascending.{in_order}
-use Rattle.mesh_data.specs.Links.{has_both, are_neighbours, opposites, least_shared, is_closed_by_three}
+use Rattle.oemm_lists.specs.Ascending.{in_order}
+use Rattle.mesh_data.specs.Links.{has_both, are_neighbours, opposites, link_violation, is_closed_by_three}
 use Rattle.mesh_data.specs.Mesh.{Mesh, origin, point_of, planes_of, names_of, with_vertex}
 use Rattle.mesh_data.specs.Planes.{plane_of, folds, squares}
 use Rattle.mesh_data.specs.Rings.{has_closed_ring}
@@ -74,12 +74,12 @@ abbrev pub renamed : ℕ → ℕ → ℕ → ℕ
 renamed u v w = if w == u then v else w
 
 -- the triangle with v in the place of u
-abbrev pub put_for : ℕ → ℕ → Tri → Tri
-put_for u v t = record { a = renamed u v t.a; b = renamed u v t.b; c = renamed u v t.c }
+abbrev pub substituted : ℕ → ℕ → Tri → Tri
+substituted u v t = record { a = renamed u v t.a; b = renamed u v t.b; c = renamed u v t.c }
 
 -- the triangle has u and not v, and folds where v is put for u
 abbrev pub folds_with : Mesh → ℕ → ℕ → Tri → Bool
-folds_with m u v t = has_corner u t && not (has_corner v t) && folds (plane_in m t) (plane_in m (put_for u v t))
+folds_with m u v t = has_corner u t && not (has_corner v t) && folds (plane_in m t) (plane_in m (substituted u v t))
 
 -- what it costs to collapse u onto v: the squared distances of v from the planes of both, where planes aren't normalised
 -- (Garland and Heckbert, 1997)
@@ -90,7 +90,7 @@ cost m u v = squares (planes_or_none m u ++ planes_or_none m v) (point_or_origin
 abbrev pub collapse_verdict : (Point → Bool) → Mesh → ℕ → ℕ → ℤ → Reply
 collapse_verdict inside m u v most = first_line (pair_lines inside m u v ++ (
     (not (has_closed_ring m.tris u), Border)
-    ∷ if_any Link (least_shared m.tris u v)
+    ∷ if_any Link (link_violation m.tris u v)
     ∷ (is_closed_by_three m.tris u && is_closed_by_three m.tris v, Closed)
     ∷ if_any Folds (find (folds_with m u v) m.tris)
     ∷ (not (int_le (cost m u v) most), Dear (cost m u v))
@@ -114,7 +114,7 @@ moved m v to = with_vertex m v (λ x. record x { point = to })
 
 -- the triangles without those that have u and v, and with v for u in the others
 unfoldable pub collapsed_tris : ℕ → ℕ → List Tri → List Tri
-collapsed_tris u v ts = in_order tri_cmp (map (λ t. turned (put_for u v t)) (filter (λ t. not (has_both u v t)) ts))
+collapsed_tris u v ts = in_order tri_cmp (map (λ t. turned (substituted u v t)) (filter (λ t. not (has_both u v t)) ts))
 
 -- the mesh with u collapsed onto v, which takes over the planes of u
 abbrev pub collapsed : Mesh → ℕ → ℕ → Mesh
@@ -157,23 +157,23 @@ abbrev pub whole_count : (Point → Bool) → Mesh → ℕ
 whole_count inside m = count_by (λ t. list_all (is_held inside m) (corners t)) m.tris
 
 -- a mesh, and the steps that led to it
-pub record Thinned : Type 0 where
+pub record Simplification : Type 0 where
   pub mesh : Mesh
   pub steps : List Step
 
 -- So many steps at most, each the least collapse that is done at its moment, as long as more triangles than the target
 -- have all three vertices held, and as long as a collapse is done.
-unfoldable pub thinned : ℕ → (Point → Bool) → Mesh → ℤ → ℕ → Thinned
-thinned zero inside m most target = record { mesh = m; steps = [] }
-thinned (suc n) inside m most target =
+unfoldable pub simplified_within : ℕ → (Point → Bool) → Mesh → ℤ → ℕ → Simplification
+simplified_within zero inside m most target = record { mesh = m; steps = [] }
+simplified_within (suc n) inside m most target =
     if nat_le (whole_count inside m) target then record { mesh = m; steps = [] }
     else option_map_or (λ s.
-    let rest = thinned n inside (collapsed m s.u s.v) most target in
+    let rest = simplified_within n inside (collapsed m s.u s.v) most target in
     record { mesh = rest.mesh; steps = s ∷ rest.steps }) (least_step (done_steps inside m most)) (record { mesh = m; steps = [] })
 
 -- what a simplification makes of the mesh: each step takes a vertex away, so there are no more steps than vertices
-abbrev pub simplified : (Point → Bool) → Mesh → ℤ → ℕ → Thinned
-simplified inside m most target = thinned (finite.len m.vertices) inside m most target
+abbrev pub simplified : (Point → Bool) → Mesh → ℤ → ℕ → Simplification
+simplified inside m most target = simplified_within (finite.len m.vertices) inside m most target
 
 -- what a simplification answers
 abbrev pub simplify_verdict : (Point → Bool) → Mesh → ℤ → ℕ → Reply

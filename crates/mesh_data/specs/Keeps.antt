@@ -2,7 +2,7 @@
 use Rattle.std.specs.Prelude.{◌≡◌, ℕ, List, [], ◌∷◌, map}
 use Rattle.mesh_data.specs.declared.edits.Entry.{Entry}
 use Rattle.mesh_data.specs.declared.edits.Task.{Task}
-use Rattle.mesh_data.specs.declared.geometry.Cell.{Cell}
+use Rattle.oemm_octree.specs.declared.cells.Cell.{Cell}
 use Rattle.mesh_data.specs.Manifold.{IsManifold}
 use Rattle.mesh_data.specs.Mesh.{Mesh, border, euler}
 use Rattle.mesh_data.specs.Work.{do_task}

@@ -1,5 +1,5 @@
-pub mod Octree
-pub mod Ascending
+pub use Rattle.oemm_lists.specs.Ascending
+pub use Rattle.oemm_octree.specs.Octree
 pub mod Triangles
 pub mod Rings
 pub mod Mesh
@@ -10,7 +10,5 @@ pub mod Work
 pub mod Seen
 pub mod Keeps
 pub mod RingChanges
-pub mod Reading
-pub mod Texts
 pub mod Planes
 pub mod Quads

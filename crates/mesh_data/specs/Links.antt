@@ -5,7 +5,7 @@ use Rattle.std.specs.Option.{option_map, option_zip}
 use Rattle.std.specs.Ordering.{nat_cmp}
 use Rattle.mesh_data.specs.declared.geometry.Tri.{Tri}
 use Rattle.mesh_data.specs.declared.geometry.Edge.{Edge}
-use Rattle.mesh_data.specs.Ascending.{in_order}
+use Rattle.oemm_lists.specs.Ascending.{in_order}
 use Rattle.mesh_data.specs.Rings.{from_each_corner, link, way, has_closed_ring}
 use Rattle.mesh_data.specs.Triangles.{has_corner, neighbours}
 
@@ -36,8 +36,8 @@ is_opposite ts u v w = is_name (apex ts u v) w || is_name (apex ts v u) w
 
 -- the least neighbour of u that is one of v too and doesn't lie opposite of their edge (Dey, Edelsbrunner, Guha and
 -- Nekhayev, "Topology preserving edge contraction", 1999)
-unfoldable pub least_shared : List Tri → ℕ → ℕ → Option ℕ
-least_shared ts u v =
+unfoldable pub link_violation : List Tri → ℕ → ℕ → Option ℕ
+link_violation ts u v =
     find (λ w. list_any (λ x. x == w) (neighbours v ts) && not (is_opposite ts u v w)) (in_order nat_cmp (neighbours u ts))
 
 -- the names along these steps, from where the first one begins

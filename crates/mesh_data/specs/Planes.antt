@@ -1,7 +1,7 @@
 -- Planes of triangles, and the quadrics of lists of planes (Garland and Heckbert, "Surface Simplification Using
 -- Quadric Error Metrics", 1997, with planes that aren't normalised).
 use Rattle.std.specs.Prelude.{ℕ, ◌+◌, ◌*◌, ◌^◌, ◌≤◌, Bool, not, ◌&&◌, ◌==◌, ℤ, pos, ◌+ℤ◌, ◌-ℤ◌, ◌*ℤ◌, neg_ℤ, ◌≤ℤ◌, nat_abs, int_le, List, [], ◌∷◌}
-use Rattle.mesh_data.specs.declared.geometry.Point.{Point}
+use Rattle.oemm_octree.specs.declared.points.Point.{Point}
 use Rattle.mesh_data.specs.declared.planes.Plane.{Plane}
 
 -- the plane of a triangle: n = (b - a) x (c - a), and d = -(n · a)

@@ -3,7 +3,7 @@ use Rattle.std.specs.Prelude.{◌≡◌, ◌≢◌, ◌⊎◌, ◌↔◌, All, C
 use Rattle.mesh_data.specs.declared.geometry.Tri.{Tri}
 use Rattle.mesh_data.specs.declared.rings.Ring.{Ring}
 use Rattle.mesh_data.specs.Edits.{renamed}
-use Rattle.mesh_data.specs.Links.{are_neighbours, is_closed_by_three, least_shared, opposites}
+use Rattle.mesh_data.specs.Links.{are_neighbours, is_closed_by_three, link_violation, opposites}
 use Rattle.mesh_data.specs.Manifold.{HasRing, IsEachEdgeOnce}
 use Rattle.mesh_data.specs.Rings.{IsRing, has_closed_ring}
 use Rattle.mesh_data.specs.Triangles.{IsProper, has_edge}
@@ -18,7 +18,7 @@ pub record MayCollapse (ts : List Tri) (u v : ℕ) : Type 0 where
   pub differ : u ≢ v
   pub near : are_neighbours ts u v ≡ true
   pub closed : has_closed_ring ts u ≡ true
-  pub unshared : least_shared ts u v ≡ None
+  pub unshared : link_violation ts u v ≡ None
   pub not_three : (is_closed_by_three ts u && is_closed_by_three ts v) ≡ false
 
 -- what the verdict of a flip of the edge of a and b, with c and d opposite of it, asks of the triangles

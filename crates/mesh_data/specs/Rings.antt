@@ -16,14 +16,14 @@ unfoldable pub link : ℕ → List Tri → List Edge
 link v ts = map (λ t. record { a = t.b; b = t.c }) (filter (λ t. t.a == v) (flat_map from_each_corner ts))
 
 -- the steps of a path: its names, two by two
-abbrev pub steps : List ℕ → List Edge
-steps [] = []
-steps (x ∷ []) = []
-steps (x ∷ y ∷ names) = record { a = x; b = y } ∷ steps (y ∷ names)
+abbrev pub path_edges : List ℕ → List Edge
+path_edges [] = []
+path_edges (x ∷ []) = []
+path_edges (x ∷ y ∷ names) = record { a = x; b = y } ∷ path_edges (y ∷ names)
 
 -- some of these steps is this one
-abbrev pub has_step : List Edge → Edge → Bool
-has_step es e = list_any (same_edge e) es
+abbrev pub has_path_edge : List Edge → Edge → Bool
+has_path_edge es e = list_any (same_edge e) es
 
 -- no name comes twice
 abbrev pub are_distinct : List ℕ → Bool
@@ -46,7 +46,7 @@ fewest_names closed = if closed then 3 else 2
 pub record IsRingOf (es : List Edge) (r : Ring) : Type 0 where
   pub distinct : are_distinct r.names ≡ true
   pub long : fewest_names r.closed ≤ length r.names
-  pub along : (e : Edge) → has_step es e ≡ has_step (steps (ring_path r)) e
+  pub along : (e : Edge) → has_path_edge es e ≡ has_path_edge (path_edges (ring_path r)) e
 
 -- a ring of v among these triangles
 abbrev pub IsRing : List Tri → ℕ → Ring → Type 0
@@ -57,16 +57,16 @@ abbrev pub next_name : List Edge → ℕ → Option ℕ
 next_name [] x = None
 next_name (e ∷ es) x = if e.a == x then Some e.b else next_name es x
 
--- the names from x on along these steps, as far as they lead and not back home, and at most so many
+-- the names from x on along these steps, as far as they lead and not back begin, and at most so many
 unfoldable pub way : ℕ → List Edge → ℕ → ℕ → List ℕ
-way zero es home x = []
-way (suc n) es home x = x ∷ option_map_or (λ y. if y == home then [] else way n es home y) (next_name es x) []
+way zero es begin x = []
+way (suc n) es begin x = x ∷ option_map_or (λ y. if y == begin then [] else way n es begin y) (next_name es x) []
 
 -- the names are different, and the closed path along them has these steps and no others
 abbrev pub is_closed_ring : List Edge → List ℕ → Bool
 is_closed_ring es names =
-    let path = steps (closed_path names) in
-    are_distinct names && nat_le 3 (length names) && list_all (has_step es) path && list_all (has_step path) es
+    let path = path_edges (closed_path names) in
+    are_distinct names && nat_le 3 (length names) && list_all (has_path_edge es) path && list_all (has_path_edge path) es
 
 -- the steps are those of a closed ring: walk along them from where the first one begins, and check
 unfoldable pub go_round : List Edge → Bool

@@ -6,7 +6,7 @@ use Rattle.std.specs.Ordering.{nat_cmp, ordering_then}
 use Rattle.std.specs.FinSet as set
 use Rattle.mesh_data.specs.declared.geometry.Tri.{Tri}
 use Rattle.mesh_data.specs.declared.geometry.Edge.{Edge}
-use Rattle.mesh_data.specs.Ascending.{in_order}
+use Rattle.oemm_lists.specs.Ascending.{in_order}
 
 -- triangles by their first, then their second, then their third name
 abbrev pub tri_cmp : Tri → Tri → Ordering

@@ -1,13 +1,13 @@
 -- Edits in a row, tasks, and the play of a list of tasks.
 use Rattle.std.specs.Prelude.{ℕ, Bool, true, false, nat_lt, List, [], ◌∷◌, length, if◌then◌else◌}
-use Rattle.mesh_data.specs.declared.geometry.Point.{Point}
-use Rattle.mesh_data.specs.declared.geometry.Cell.{Cell}
+use Rattle.oemm_octree.specs.declared.points.Point.{Point}
+use Rattle.oemm_octree.specs.declared.cells.Cell.{Cell}
 use Rattle.mesh_data.specs.declared.edits.Edit.{Edit}
 use Rattle.mesh_data.specs.declared.edits.Reply.{Reply}
 use Rattle.mesh_data.specs.declared.edits.Task.{Task}
 use Rattle.mesh_data.specs.declared.edits.Entry.{Entry}
 use Rattle.mesh_data.specs.Mesh.{Mesh}
-use Rattle.mesh_data.specs.Octree.{core_of, area_of, is_inside}
+use Rattle.oemm_octree.specs.Octree.{core_of, area_of, is_inside}
 use Rattle.mesh_data.specs.Edits.{verdict, after}
 
 -- a mesh, and the replies of the edits that led to it

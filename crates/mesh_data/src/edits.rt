@@ -1,9 +1,9 @@
 //! Edits and their replies, tasks, and the entries of a journal.
 
-use crate::geometry::{Point, Tri};
-use crate::list::{Copied, List};
+use crate::geometry::Tri;
 use crate::names::{Lane, Name};
-use crate::sets::LeafSet;
+use oemm_lists::{Copied, List};
+use oemm_octree::{LeafSet, Point};
 use std::alloc::{AllocError, Global};
 
 /// A change that is asked of a mesh.

@@ -1,28 +1,14 @@
-//! The numbers of vertices, leaves and lanes.
+//! The numbers of vertices and lanes.
 
-use crate::list::Copied;
+use oemm_lists::{AscendingSet, Copied, Numbered};
 use std::alloc::{AllocError, Global};
 use std::marker::Model;
 
 /// A vertex: its place in the input, which it keeps as long as the mesh lives.
-#[derive(Clone, Copy, Debug, PartialEq, Eq, PartialOrd, Ord)]
+#[derive(Clone, Copy, Debug, Default, PartialEq, Eq, PartialOrd, Ord)]
 pub struct Name(pub u32);
 
 impl Model for Name {
-    ghost use Rattle.std.specs.Prelude.{ℕ};
-
-    ghost Value = { ℕ };
-
-    ghost view = { λ n. n.0 };
-
-    ghost inverse = { λ n. record { 0 = n } };
-}
-
-/// A leaf of the octree, numbered from 0 in depth-first order.
-#[derive(Clone, Copy, Debug, PartialEq, Eq, PartialOrd, Ord)]
-pub struct LeafNo(pub u32);
-
-impl Model for LeafNo {
     ghost use Rattle.std.specs.Prelude.{ℕ};
 
     ghost Value = { ℕ };
@@ -52,8 +38,19 @@ impl Copied for Name {
     }
 }
 
-impl Copied for LeafNo {
-    fn copy(&self, alloc: Global) -> Result<LeafNo, AllocError> {
-        Ok(*self)
+impl Numbered for Name {
+    ghost use Rattle.std.proofs.Common.{sym, map-id};
+
+    ghost number = { λ name. name };
+
+    ghost numbers = { λ names. names };
+
+    fn number(&self) -> u32 {
+        self.0
     }
+
+    ghost each = { λ names. sym (map-id names) };
 }
+
+/// Names of vertices, strictly ascending.
+pub type NameSet = AscendingSet<Name>;

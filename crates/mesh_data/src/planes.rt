@@ -1,6 +1,6 @@
 //! Planes of triangles.
 
-use crate::list::{Copied, List};
+use oemm_lists::{Copied, List};
 use std::alloc::{AllocError, Global};
 
 /// The plane of a triangle, not normalised: the points p with n·p + d = 0, where n is the cross product of two sides.

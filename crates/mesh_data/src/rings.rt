@@ -1,7 +1,7 @@
 //! The neighbours round a vertex.
 
-use crate::list::List;
 use crate::names::Name;
+use oemm_lists::List;
 
 /// A list of names.
 pub type Names = List<Name>;

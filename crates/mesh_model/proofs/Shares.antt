@@ -6,7 +6,8 @@ use Rattle.std.proofs.lemmas.List.Sums.{sum_by-append}
 use Rattle.std.specs.Cmp.{nat_cmp_total, unsigned_tied}
 use Rattle.std.specs.Option.{option_map, option_map_or, is_some}
 use Rattle.std.specs.Ordering.{nat_cmp, eq_by_cmp}
-use Rattle.mesh_data.specs.declared.geometry.Point.{Point}
+use Rattle.oemm_limits.specs.declared.TheConstants.{MOST_ITEMS}
+use Rattle.oemm_octree.specs.declared.points.Point.{Point}
 use Rattle.mesh_data.specs.declared.geometry.Tri.{Tri}
 use Rattle.mesh_data.specs.declared.geometry.Vertex.{Vertex}
 use Rattle.mesh_data.specs.declared.planes.Plane.{Plane}
@@ -26,7 +27,7 @@ pub large_at : (m : finite.FinMap nat_cmp Vertex) (v : ℕ) → at large_count (
 large_at m v = elim (finite.get m v) as (λ o. at large_count o ≡ large_of (option_map_or (λ ls. ls) (option_map (λ (x : Vertex). x.planes) o) [])) [ None ↦ refl | Some x ↦ refl ]
 
 -- a start mesh has three planes for each triangle, of which none is large
-pub planes_started : (f : ℕ → List Plane) (ps : List Point) (ts : List Tri) → named_from f 0 ps ≡ named_from (planes_at ps ts) 0 ps → length ts ≤ 16777216 → ((v : ℕ) → large_of (f v) ≡ 0) → HasPlanes (finite.from_entries {R = nat_cmp} (named_from f 0 ps))
+pub planes_started : (f : ℕ → List Plane) (ps : List Point) (ts : List Tri) → named_from f 0 ps ≡ named_from (planes_at ps ts) 0 ps → length ts ≤ MOST_ITEMS → ((v : ℕ) → large_of (f v) ≡ 0) → HasPlanes (finite.from_entries {R = nat_cmp} (named_from f 0 ps))
 planes_started f ps ts same few bounded =
     let counts : total_in plane_count (named_from f 0 ps) ≡ total_in plane_count (named_from (planes_at ps ts) 0 ps) = ap (total_in plane_count) same in
     record {

@@ -6,11 +6,11 @@ use Rattle.std.specs.List.{All, AllByRecursion}
 use Rattle.std.specs.Ordering.{nat_cmp, is_le}
 use Rattle.std.specs.declared.cmp.Ordering.{Ordering}
 use Rattle.std.specs.FinMap as finite
-use Rattle.mesh_data.specs.declared.geometry.Point.{Point}
+use Rattle.oemm_octree.specs.declared.points.Point.{Point}
 use Rattle.mesh_data.specs.declared.geometry.Tri.{Tri}
 use Rattle.mesh_data.specs.declared.geometry.Vertex.{Vertex}
 use Rattle.mesh_data.specs.declared.planes.Plane.{Plane}
-use Rattle.mesh_data.specs.Ascending.{placed, in_order}
+use Rattle.oemm_lists.specs.Ascending.{inserted, in_order}
 use Rattle.mesh_data.specs.Manifold.{IsTriangleOf}
 use Rattle.mesh_data.specs.Mesh.{named_from}
 use Rattle.mesh_data.specs.Triangles.{IsProper, IsBelow, turned, tri_cmp}
@@ -26,10 +26,10 @@ turned_keeps P turn t h =
       | false ↦ elim (nat_lt t.b t.c) as (λ b. P (cond b (record { a = t.b; b = t.c; c = t.a }) (record { a = t.c; b = t.a; c = t.b }))) [ true ↦ next | false ↦ third ]
     ]
 
-all_placed : {X : Type 0} (P : X → Type 0) (R : X → X → Ordering) (x : X) (xs : List X) → P x → AllByRecursion P xs → AllByRecursion P (placed R x xs)
+all_placed : {X : Type 0} (P : X → Type 0) (R : X → X → Ordering) (x : X) (xs : List X) → P x → AllByRecursion P xs → AllByRecursion P (inserted R x xs)
 all_placed P R x [] h all = (h, tt)
 all_placed P R x (y ∷ ys) h all =
-    elim (is_le (R x y)) as (λ b. AllByRecursion P (cond b (x ∷ y ∷ ys) (y ∷ placed R x ys))) [ true ↦ (h, all) | false ↦ (all.0, all_placed P R x ys h all.1) ]
+    elim (is_le (R x y)) as (λ b. AllByRecursion P (cond b (x ∷ y ∷ ys) (y ∷ inserted R x ys))) [ true ↦ (h, all) | false ↦ (all.0, all_placed P R x ys h all.1) ]
 
 all_in_order : {X : Type 0} (P : X → Type 0) (R : X → X → Ordering) (xs : List X) → AllByRecursion P xs → AllByRecursion P (in_order R xs)
 all_in_order P R [] all = tt

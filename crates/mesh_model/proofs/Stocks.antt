@@ -5,7 +5,7 @@ use Rattle.std.proofs.lemmas.List.Sums.{sum_by-append}
 use Rattle.std.specs.Cmp.{nat_cmp_total}
 use Rattle.std.specs.FinMap as finite
 use Rattle.std.specs.Ordering.{nat_cmp}
-use Rattle.mesh_data.specs.declared.geometry.Point.{Point}
+use Rattle.oemm_octree.specs.declared.points.Point.{Point}
 use Rattle.mesh_data.specs.declared.geometry.Tri.{Tri}
 use Rattle.mesh_data.specs.declared.geometry.Vertex.{Vertex}
 use Rattle.mesh_data.specs.declared.planes.Plane.{Plane}

@@ -1,6 +1,6 @@
 -- Which edits can want memory.
 use Rattle.std.specs.Prelude.{◌≡◌, ⊤, Bool, None}
-use Rattle.mesh_data.specs.declared.geometry.Point.{Point}
+use Rattle.oemm_octree.specs.declared.points.Point.{Point}
 use Rattle.mesh_data.specs.declared.edits.Edit.{Edit}
 use Rattle.mesh_data.specs.declared.edits.Edit.TheVariants.{Move, Collapse, Flip, Simplify}
 use Rattle.mesh_data.specs.declared.edits.Reply.TheVariants.{Done}

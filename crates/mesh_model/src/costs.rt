@@ -11,7 +11,7 @@ ghost use Rattle.oemm_plane.specs.PlaneBounds.{IsNormalBounded};
 use crate::plain_mesh::PlainMesh;
 use mesh_data::{Name, Plane, Quad, Tri};
 use oemm_plane::{QuadSums, folds, plane_of};
-use triangle_edits::{has_corner, put_for};
+use triangle_edits::{has_corner, substituted};
 
 /// The quadric of planes of triangles of the grid.
 fn quad_of(planes: &[Plane]) -> Quad
@@ -45,7 +45,7 @@ impl PlainMesh {
     {
         has_corner(u, t)
             && !has_corner(v, t)
-            && folds(&self.plane_in(t), &self.plane_in(&put_for(u, v, t)))
+            && folds(&self.plane_in(t), &self.plane_in(&substituted(u, v, t)))
     }
 
     /// The least triangle that folds where `v` is put for `u`.
@@ -55,7 +55,7 @@ impl PlainMesh {
         self.tris.iter().copied().find(|t| self.folds_with(u, v, t))
     }
 
-    /// What it costs to put `v` for `u`.
+    /// What it costs to put `v` for `u`: the quadrics of both at the point of `v` (Garland and Heckbert, 1997).
     pub(crate) fn cost(&self, u: Name, v: Name) -> i128
         requires { u ≢ v }
         ensures { result ≡ cost self.now u v }

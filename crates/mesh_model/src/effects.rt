@@ -6,16 +6,17 @@ ghost use Rattle.mesh_data.specs.Edits.{moved, collapsed, flipped, pair_lines, v
 ghost use Rattle.mesh_data.specs.Keeps.{Keeps};
 ghost use Rattle.mesh_data.specs.Links.{opposites};
 ghost use Rattle.mesh_data.specs.Manifold.{IsManifold};
-ghost use Rattle.mesh_data.specs.Octree.{AreCells, IsAtMost, is_inside};
+ghost use Rattle.oemm_octree.specs.Octree.{AreCells, is_inside};
 ghost use Rattle.mesh_data.specs.declared.edits.Edit.TheVariants.{Move, Collapse, Flip};
 ghost use Rattle.mesh_data.specs.declared.edits.Reply.TheVariants.{Done};
 ghost use Rattle.mesh_data.specs.Work.{work, do_task, wide_entry};
 ghost use Rattle.edit_steps.specs.Lines.{refusal};
 ghost use Rattle.mesh_model.specs.Memory.{CanWantMemory};
 
-use crate::areas::{Area, core_leaves};
 use crate::plain_mesh::PlainMesh;
-use mesh_data::{Cells, Copied, Edit, Entry, LeafSet, List, Name, Point, Replies, Reply, Task};
+use mesh_data::{Edit, Entry, Name, Replies, Reply, Task};
+use oemm_lists::{Copied, List};
+use oemm_octree::{Area, Cells, LeafSet, Point, core_leaves};
 use std::alloc::{AllocError, Global};
 use triangle_edits::{collapsed_tris, flipped_tris, opposites};
 
@@ -30,26 +31,29 @@ impl PlainMesh {
     /// - `Outside`: a move goes to a point that isn't in the area.
     /// - `Border`: the name that is to go has no closed ring, or the edge that is to be flipped has no triangle at one
     ///   of its sides.
-    /// - `Link`: the least neighbour of both names of a collapse that doesn't lie opposite of their edge.
+    /// - `Link`: the least name that violates the link condition of a collapse (Dey, Edelsbrunner, Guha and Nekhayev,
+    ///   1999): a neighbour of both of its names that doesn't lie opposite of their edge.
     /// - `Closed`: both names of a collapse have a closed ring of three.
     /// - `Folds`: the least triangle that a collapse would turn over.
-    /// - `Dear`: what a collapse costs, where that is more than it may.
+    /// - `Dear`: what a collapse costs, where that is more than it may: the sum of the squared distances of the kept
+    ///   vertex from the planes of both, each weighted by four times the squared area of its triangle (after Garland
+    ///   and Heckbert, 1997, on one end of the edge), in units of the grid to the sixth power.
     /// - `Edge`: the edge that a flip would make, its lesser name first, where it is there already.
     ///
     /// `Done` is the answer to a move or a flip that was made, and `DoneAt` to a collapse, with its cost. Every
-    /// simplification is answered `Simplified`, also where it makes no collapse: it tells the collapses that it made, in
-    /// their order, and how many triangles with all three vertices held are left.
+    /// simplification is answered `Simplified`, also where it makes no collapse: it tells the collapses that it made,
+    /// in their order, and how many triangles with all three vertices held are left.
     ///
     /// An oriented 2-manifold stays one with its Euler characteristic and its border, whatever the answer.
     ///
     /// A move takes time of about F for F triangles, and a collapse and a flip of about F log F. A simplification scans
-    /// the sides of all triangles for each of its steps, so its time grows with the steps times the triangles. In a scan
-    /// each collapse that is less than the best one so far is tried in full, which takes F log F again.
+    /// the sides of all triangles for each of its steps, so its time grows with the steps times the triangles. In a
+    /// scan each collapse that is less than the best one so far is tried in full, which takes F log F again.
     ///
     /// # Errors
     ///
-    /// `AllocError` for want of memory; then the mesh is unchanged. A move wants none, a collapse only where its two names
-    /// are free and neighbours, and a flip only where it is made. A simplification is made on a copy of the mesh.
+    /// `AllocError` for want of memory; then the mesh is unchanged. A move wants none, a collapse only where its two
+    /// names are free and neighbours, and a flip only where it is made. A simplification is made on a copy of the mesh.
     pub fn do_edit(&mut self, alloc: Global, area: &Area, edit: &Edit) -> Result<Reply, AllocError>
         ensures reply { IfOk result (λ r. r ≡ verdict (is_inside area.now) self.old edit.now) }
         ensures mesh { OnOk result (self.new
@@ -78,8 +82,8 @@ impl PlainMesh {
     }
 
     /// Does the task's edits in order on the core of its box, as `do_edit` does each. A task whose core has more than
-    /// `limit` leaves is wide and changes nothing. An oriented 2-manifold stays one with its Euler characteristic and its
-    /// border.
+    /// `limit` leaves is wide and changes nothing. An oriented 2-manifold stays one with its Euler characteristic and
+    /// its border.
     ///
     /// # Errors
     ///
@@ -93,7 +97,6 @@ impl PlainMesh {
     ) -> Result<Entry, AllocError>
         requires octree { AreCells cells.now }
         requires few { length cells.now < 2 ^ 32 }
-        requires corners { IsAtMost task.now.low task.now.high }
         ensures entry { IfOk result (λ e. e ≡ (do_task cells.now limit self.old task.now).entry) }
         ensures mesh { OnOk result (self.new ≡ (do_task cells.now limit self.old task.now).mesh) }
         ensures err { OnErr result (self.new ≡ self.old) }
@@ -112,7 +115,6 @@ impl PlainMesh {
     ) -> Result<Entry, AllocError>
         requires octree { AreCells cells.now }
         requires few { length cells.now < 2 ^ 32 }
-        requires corners { IsAtMost task.now.low task.now.high }
         ensures entry { IfOk result (λ e. e ≡ (do_task cells.now limit self.old task.now).entry) }
         ensures mesh { OnOk result (self.new ≡ (do_task cells.now limit self.old task.now).mesh) }
         ensures err { OnErr result (self.new ≡ self.old) }

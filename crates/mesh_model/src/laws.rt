@@ -1,7 +1,7 @@
 //! What follows from the definitions of start meshes and of audits.
 
 ghost use Rattle.std.specs.Prelude.{◌≡◌, List, IsPermutation};
-ghost use Rattle.mesh_data.specs.declared.geometry.Point.{Point};
+ghost use Rattle.oemm_octree.specs.declared.points.Point.{Point};
 ghost use Rattle.mesh_data.specs.declared.geometry.Tri.{Tri};
 ghost use Rattle.mesh_data.specs.declared.shapes.Shape.{Shape};
 ghost use Rattle.mesh_data.specs.declared.shapes.Audit.TheVariants.{Bad};

@@ -10,7 +10,10 @@ ghost use Rattle.mesh_data.specs.Triangles.{IsProper, IsBelow, tri_cmp};
 
 use crate::plane_lists::plane_lists;
 use crate::vertex_map::VertexMap;
-use mesh_data::{Audit, Copied, Edges, List, Name, NameSet, Planes, Point, Points, Tri, Tris};
+use mesh_data::{Audit, Edges, Name, NameSet, Planes, Tri, Tris};
+use oemm_limits::MOST_ITEMS;
+use oemm_lists::{Copied, List};
+use oemm_octree::{Point, Points};
 use std::alloc::{AllocError, Global};
 use std::marker::Model;
 use triangle_lists::{border_list, count_undirected, first_fault, turned_in_order};
@@ -31,6 +34,7 @@ impl Model for PlainMesh {
     ghost use Rattle.mesh_data.specs.Mesh.{Mesh, mesh_code};
     ghost use Rattle.mesh_data.specs.Triangles.{tri_cmp};
     ghost use Rattle.mesh_model.specs.PlaneCounts.{HasPlanes};
+    ghost use Rattle.oemm_limits.specs.declared.TheConstants.{MOST_ITEMS};
 
     ghost Value = { Mesh };
 
@@ -38,7 +42,7 @@ impl Model for PlainMesh {
 
     ghost view = { λ m. record { vertices = m.vertices; tris = m.tris.items } };
 
-    ghost invariant = { λ m. (finite.len m.vertices ≤ 16777216) × (length m.tris.items ≤ 16777216)
+    ghost invariant = { λ m. (finite.len m.vertices ≤ MOST_ITEMS) × (length m.tris.items ≤ MOST_ITEMS)
         × All (IsTriangleOf m.vertices) m.tris.items × HasPlanes m.vertices × IsSorted tri_cmp m.tris.items };
 }
 
@@ -53,8 +57,8 @@ impl PlainMesh {
         points: &[Point],
         faces: &[Tri],
     ) -> Result<PlainMesh, AllocError>
-        requires points { length points.now ≤ 16777216 }
-        requires faces { length faces.now ≤ 16777216 }
+        requires points { length points.now ≤ MOST_ITEMS }
+        requires faces { length faces.now ≤ MOST_ITEMS }
         requires proper { All IsProper faces.now }
         requires below { All (IsBelow (length points.now)) faces.now }
         ensures { IfOk result (λ m. m ≡ start (record { points = points.now; faces = faces.now })) }
@@ -82,7 +86,7 @@ impl PlainMesh {
     #[tactic(auto, using(edit_steps::proofs::Vertices::few_names))]
     pub fn names(&self, alloc: Global) -> Result<NameSet, AllocError>
         ensures names { IfOk result (λ names. names ≡ names_of self.now) }
-        ensures few { IfOk result (λ names. length names ≤ 16777216) }
+        ensures few { IfOk result (λ names. length names ≤ MOST_ITEMS) }
     {
         self.vertices.names(alloc)
     }
@@ -94,7 +98,7 @@ impl PlainMesh {
     #[tactic(auto, using(edit_steps::proofs::Vertices::few_points))]
     pub fn points(&self, alloc: Global) -> Result<Points, AllocError>
         ensures points { IfOk result (λ points. points ≡ points_of self.now) }
-        ensures few { IfOk result (λ points. length points ≤ 16777216) }
+        ensures few { IfOk result (λ points. length points ≤ MOST_ITEMS) }
     {
         self.vertices.points(alloc)
     }
@@ -119,7 +123,7 @@ impl PlainMesh {
     /// Want of memory.
     pub fn tris(&self, alloc: Global) -> Result<Tris, AllocError>
         ensures tris { IfOk result (λ tris. tris ≡ self.now.tris) }
-        ensures few { IfOk result (λ tris. length tris ≤ 16777216) }
+        ensures few { IfOk result (λ tris. length tris ≤ MOST_ITEMS) }
         ensures ascending { IfOk result (λ tris. IsSorted tri_cmp tris) }
         ensures triangles { IfOk result (λ tris. All (IsTriangleOf self.now.vertices) tris) }
     {
@@ -189,7 +193,7 @@ impl PlainMesh {
     /// Want of memory.
     pub fn border(&self, alloc: Global) -> Result<Edges, AllocError>
         ensures edges { IfOk result (λ edges. edges ≡ border self.now) }
-        ensures few { IfOk result (λ edges. length edges ≤ 3 * 16777216) }
+        ensures few { IfOk result (λ edges. length edges ≤ 3 * MOST_ITEMS) }
     {
         border_list(alloc, self.tris.as_slice())
     }

@@ -6,7 +6,9 @@ ghost use Rattle.mesh_data.specs.Mesh.{plane_at, planes_at};
 ghost use Rattle.mesh_data.specs.Triangles.{IsProper, IsBelow};
 ghost use Rattle.mesh_model.specs.PlaneCounts.{is_bounded};
 
-use mesh_data::{List, Name, Plane, Planes, Point, Tri};
+use mesh_data::{Name, Plane, Planes, Tri};
+use oemm_lists::List;
+use oemm_octree::Point;
 use oemm_plane::plane_of;
 use std::alloc::{AllocError, Global};
 
@@ -20,7 +22,8 @@ pub fn plane_lists(alloc: Global, points: &[Point], tris: &[Tri]) -> Result<Vec<
     ensures len { IfOk result (λ lists. length lists.items ≡ length points.now) }
     ensures planes { IfOk result (λ lists. (v : ℕ) → v < length points.now →
         slice_index_or lists.items v [] ≡ planes_at points.now tris.now v) }
-    ensures bounded { IfOk result (λ lists. (v : ℕ) → count_by (λ l. not (is_bounded l)) (slice_index_or lists.items v []) ≡ 0) }
+    ensures bounded { IfOk result
+        (λ lists. (v : ℕ) → count_by (λ l. not (is_bounded l)) (slice_index_or lists.items v []) ≡ 0) }
 {
     let mut lists = empty_lists(alloc, points.len())?;
     for t in tris {
@@ -59,11 +62,9 @@ fn empty_lists(alloc: Global, count: usize) -> Result<Vec<Planes>, AllocError>
 /// Puts a plane at the end of the list of a place.
 fn push_plane(lists: &mut Vec<Planes>, v: Name, plane: Plane) -> Result<(), AllocError>
     requires { v < length lists.old.items }
-    ensures { OnOk result (lists.new.items ≡ slice_set lists.old.items v (slice_index_or lists.old.items v [] ++ plane ∷ [])) }
+    ensures { OnOk result
+        (lists.new.items ≡ slice_set lists.old.items v (slice_index_or lists.old.items v [] ++ plane ∷ [])) }
 {
     let list = &mut lists[v.0 as usize];
-    match list.push(plane) {
-        Ok(()) => Ok(()),
-        Err(_) => Err(AllocError),
-    }
+    list.add(plane)
 }

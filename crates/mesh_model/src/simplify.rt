@@ -5,14 +5,16 @@ ghost use Rattle.std.specs.List.{list_all};
 ghost use Rattle.std.specs.Option.{option_map_or};
 ghost use Rattle.std.specs.Ordering.{is_le};
 ghost use Rattle.mesh_data.specs.Edits.{is_held, cost, collapse_verdict, done_step, done_steps, least_step, step_cmp, whole_count, simplified, verdict, after};
-ghost use Rattle.mesh_data.specs.Octree.{is_inside};
+ghost use Rattle.oemm_octree.specs.Octree.{is_inside};
 ghost use Rattle.mesh_data.specs.Triangles.{corners};
 ghost use Rattle.mesh_data.specs.declared.edits.Edit.TheVariants.{Simplify};
 ghost use Rattle.edit_steps.specs.Steps.{lesser, both_ways, best_of, answer_of};
 
-use crate::areas::Area;
 use crate::plain_mesh::PlainMesh;
-use mesh_data::{List, Name, Reply, Step, Steps, Tri};
+use mesh_data::{Name, Reply, Step, Steps, Tri};
+use oemm_limits::MOST_ITEMS;
+use oemm_lists::List;
+use oemm_octree::Area;
 use std::alloc::{AllocError, Global};
 use std::cmp::Ordering;
 
@@ -64,7 +66,7 @@ impl PlainMesh {
     /// How many triangles have all three vertices held.
     fn whole_count(&self, area: &Area) -> usize
         ensures count { result ≡ whole_count (is_inside area.now) self.now }
-        ensures few { result ≤ 16777216 }
+        ensures few { result ≤ MOST_ITEMS }
     {
         self.tris.iter().filter(|t| self.is_whole(area, t)).count()
     }
@@ -91,7 +93,8 @@ impl PlainMesh {
         u: Name,
         v: Name,
     ) -> Result<Option<Step>, AllocError>
-        ensures { IfOk result (λ s. s ≡ lesser best (done_step u v (collapse_verdict (is_inside area.now) self.now u v max))) }
+        ensures { IfOk result
+            (λ s. s ≡ lesser best (done_step u v (collapse_verdict (is_inside area.now) self.now u v max))) }
     {
         if u == v {
             return Ok(best);
@@ -136,7 +139,7 @@ impl PlainMesh {
 
     /// Makes the least collapse that is done, again and again, as long as more triangles than the target have all three
     /// vertices held. For want of memory some may have been made.
-    fn thin(
+    fn make_steps(
         &mut self,
         alloc: Global,
         area: &Area,
@@ -166,9 +169,11 @@ impl PlainMesh {
         target: u32,
     ) -> Result<Reply, AllocError>
         ensures reply { IfOk result (λ r. r ≡ verdict (is_inside area.now) self.old (Simplify max target)) }
-        ensures mesh { OnOk result (self.new ≡ after self.old (Simplify max target) (verdict (is_inside area.now) self.old (Simplify max target))) }
+        ensures mesh { OnOk result
+            (self.new ≡ after self.old (Simplify max target)
+            (verdict (is_inside area.now) self.old (Simplify max target))) }
     {
-        let steps = self.thin(alloc, area, max, target)?;
+        let steps = self.make_steps(alloc, area, max, target)?;
         let left = self.whole_count(area) as u32;
         Ok(Reply::Simplified { steps, left })
     }
@@ -182,7 +187,9 @@ impl PlainMesh {
         target: u32,
     ) -> Result<Reply, AllocError>
         ensures reply { IfOk result (λ r. r ≡ verdict (is_inside area.now) self.old (Simplify max target)) }
-        ensures mesh { OnOk result (self.new ≡ after self.old (Simplify max target) (verdict (is_inside area.now) self.old (Simplify max target))) }
+        ensures mesh { OnOk result
+            (self.new ≡ after self.old (Simplify max target)
+            (verdict (is_inside area.now) self.old (Simplify max target))) }
         ensures err { OnErr result (self.new ≡ self.old) }
     {
         let mut mesh = self.copy(alloc)?;

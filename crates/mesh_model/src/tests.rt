@@ -1,5 +1,5 @@
 ghost use Rattle.std.specs.Prelude.{◌≡◌, ◌≤◌, ◌<◌, ◌^◌, length, IsTrue, IfOk, All};
-ghost use Rattle.mesh_data.specs.Octree.{AreCells};
+ghost use Rattle.oemm_octree.specs.Octree.{AreCells};
 ghost use Rattle.mesh_data.specs.Triangles.{IsProper, IsBelow};
 
 use super::*;

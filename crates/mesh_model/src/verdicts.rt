@@ -4,18 +4,18 @@ ghost use Rattle.std.specs.Prelude.{◌≡◌, ◌≢◌, ◌∷◌, ◌&&◌, �
 ghost use Rattle.std.specs.List.{list_all, find};
 ghost use Rattle.std.specs.Option.{is_none};
 ghost use Rattle.mesh_data.specs.Edits.{is_held, is_free, pair_lines, if_any, edge_line, first_line, folds_with, cost, move_verdict, collapse_verdict, flip_verdict};
-ghost use Rattle.mesh_data.specs.Links.{opposites, least_shared, is_closed_by_three};
-ghost use Rattle.mesh_data.specs.Octree.{is_inside};
+ghost use Rattle.mesh_data.specs.Links.{opposites, link_violation, is_closed_by_three};
+ghost use Rattle.oemm_octree.specs.Octree.{is_inside};
 ghost use Rattle.mesh_data.specs.Rings.{has_closed_ring};
 ghost use Rattle.mesh_data.specs.Triangles.{corners, has_corner};
 ghost use Rattle.mesh_data.specs.declared.edits.Reply.TheVariants.{Border, Link, Closed, Folds, Dear, Done, DoneAt};
 ghost use Rattle.edit_steps.specs.Lines.{refusal};
 
-use crate::areas::Area;
 use crate::plain_mesh::PlainMesh;
-use mesh_data::{Name, Point, Reply, Tri};
+use mesh_data::{Name, Reply, Tri};
+use oemm_octree::{Area, Point};
 use std::alloc::{AllocError, Global};
-use triangle_edits::{are_neighbours, has_corner, is_closed_by_three, least_shared, opposites};
+use triangle_edits::{are_neighbours, has_corner, is_closed_by_three, link_violation, opposites};
 use triangle_lists::has_closed_ring;
 
 impl PlainMesh {
@@ -31,7 +31,8 @@ impl PlainMesh {
 
     /// Whether the triangle lacks the vertex, or its other names are held.
     fn frees(&self, area: &Area, v: Name, t: &Tri) -> bool
-        ensures { result ≡ (not (has_corner v t.now) || list_all (is_held (is_inside area.now) self.now) (filter (λ w. not (w == v)) (corners t.now))) }
+        ensures { result ≡ (not (has_corner v t.now) || list_all (is_held (is_inside area.now) self.now)
+            (filter (λ w. not (w == v)) (corners t.now))) }
     {
         if !has_corner(v, t) {
             return true;
@@ -43,7 +44,9 @@ impl PlainMesh {
 
     /// Whether each triangle lacks the vertex or has its other names held.
     fn all_free(&self, area: &Area, v: Name) -> bool
-        ensures { result ≡ list_all (λ t. not (has_corner v t) || list_all (is_held (is_inside area.now) self.now) (filter (λ w. not (w == v)) (corners t))) self.now.tris }
+        ensures { result ≡ list_all
+            (λ t. not (has_corner v t) || list_all (is_held (is_inside area.now) self.now)
+            (filter (λ w. not (w == v)) (corners t))) self.now.tris }
     {
         self.tris.iter().all(|t| self.frees(area, v, t))
     }
@@ -95,7 +98,7 @@ impl PlainMesh {
     fn link_refusal(&self, alloc: Global, u: Name, v: Name) -> Result<Option<Reply>, AllocError>
         ensures { IfOk result (λ r. r ≡ refusal (
             (not (has_closed_ring self.now.tris u), Border)
-            ∷ if_any Link (least_shared self.now.tris u v)
+            ∷ if_any Link (link_violation self.now.tris u v)
             ∷ (is_closed_by_three self.now.tris u && is_closed_by_three self.now.tris v, Closed)
             ∷ [])) }
     {
@@ -103,7 +106,7 @@ impl PlainMesh {
         if !has_closed_ring(alloc, tris, u)? {
             return Ok(Some(Reply::Border));
         }
-        if let Some(w) = least_shared(alloc, tris, u, v)? {
+        if let Some(w) = link_violation(alloc, tris, u, v)? {
             return Ok(Some(Reply::Link(w)));
         }
         if is_closed_by_three(alloc, tris, u)? && is_closed_by_three(alloc, tris, v)? {

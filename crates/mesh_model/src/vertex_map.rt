@@ -1,7 +1,6 @@
 //! The vertices of a mesh by their names.
 
 ghost use Rattle.std.specs.Prelude.{◌≡◌, ◌<◌, ◌+◌, ◌^◌, [], ◌∷◌, ◌++◌, map, length, slice_index_or, IfOk, OnOk, OnErr};
-ghost use Rattle.mesh_data.specs.Ascending.{IsAboveLast};
 ghost use Rattle.std.specs.Option.{option_copied, option_map, option_map_or};
 ghost use Rattle.std.specs.BTreeMap.{IsOrdered, values};
 ghost use Rattle.std.specs.Ordering.{nat_cmp};
@@ -9,7 +8,9 @@ ghost use Rattle.std.specs.FinMap as finite;
 ghost use Rattle.mesh_data.specs.Mesh.{named_from, origin};
 ghost use Rattle.mesh_model.specs.Taken.{planes_in, taken_over};
 
-use mesh_data::{Copied, List, Name, NameSet, Plane, Planes, Point, Points, Vertex};
+use mesh_data::{Name, NameSet, Plane, Planes, Vertex};
+use oemm_lists::{Copied, List};
+use oemm_octree::{Point, Points};
 use std::alloc::{AllocError, Global};
 use std::collections::BTreeMap;
 use std::marker::Model;
@@ -55,7 +56,8 @@ impl VertexMap {
     ) -> Result<VertexMap, AllocError>
         requires few { length points.now < 2 ^ 32 }
         requires whole { length planes.items ≡ length points.now }
-        ensures vertices { IfOk result (λ m. m ≡ finite.from_entries (named_from (λ v. slice_index_or planes.items v []) 0 points.now)) }
+        ensures vertices { IfOk result
+            (λ m. m ≡ finite.from_entries (named_from (λ v. slice_index_or planes.items v []) 0 points.now)) }
         ensures len { IfOk result (λ m. finite.len m ≡ length points.now) }
     {
         let mut vertices = VertexMap::new(alloc);
@@ -145,7 +147,8 @@ impl VertexMap {
 
     /// Puts the vertex of a name at another point, and does nothing at a name without one. It takes no memory.
     pub fn set_point(&mut self, v: Name, to: Point)
-        ensures vertices { self.new ≡ option_map_or (λ x. finite.insert self.old v (record x { point = to })) (finite.get self.old v) self.old }
+        ensures vertices { self.new
+            ≡ option_map_or (λ x. finite.insert self.old v (record x { point = to })) (finite.get self.old v) self.old }
         ensures len { finite.len self.new ≡ finite.len self.old }
     {
         if let Some(vertex) = self.vertices.get_mut(&v) {
@@ -155,7 +158,8 @@ impl VertexMap {
 
     /// Gives the vertex of a name other planes, and does nothing at a name without one. It takes no memory.
     fn set_planes(&mut self, v: Name, planes: Planes)
-        ensures { self.new ≡ option_map_or (λ x. finite.insert self.old v (record x { planes = planes })) (finite.get self.old v) self.old }
+        ensures { self.new ≡ option_map_or (λ x. finite.insert self.old v (record x { planes = planes }))
+            (finite.get self.old v) self.old }
     {
         if let Some(vertex) = self.vertices.get_mut(&v) {
             vertex.planes = planes;
@@ -190,7 +194,7 @@ impl VertexMap {
     {
         let mut names = NameSet::new(alloc);
         for name in self.vertices.keys() {
-            push_name(&mut names, *name)?;
+            names.add(*name)?;
         }
         Ok(names)
     }
@@ -212,14 +216,4 @@ fn points_in(alloc: Global, vertices: &BTreeMap<Name, Vertex>) -> Result<Vec<Poi
     ensures ordered { IsOrdered nat_cmp vertices.now }
 {
     vertices.values().map(|x| x.point).collect(alloc)
-}
-
-fn push_name(names: &mut NameSet, name: Name) -> Result<(), AllocError>
-    requires { IsAboveLast name names.old }
-    ensures { OnOk result (names.new ≡ names.old ++ name ∷ []) }
-{
-    match names.push(name) {
-        Ok(()) => Ok(()),
-        Err(_) => Err(AllocError),
-    }
 }

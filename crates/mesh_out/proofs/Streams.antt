@@ -2,13 +2,13 @@
 use Rattle.std.proofs.Common.{◌≡◌, ℕ, ◌+◌, List, [], ◌++◌, length, take, drop, refl, append_assoc, append-nil, arith, length-append}
 use Rattle.std.proofs.lemmas.List.{take-append-drop, take-append-le}
 use Rattle.std.proofs.Math.Seq.{take-append-add, take-append_seam}
-use Rattle.fault_counts.specs.Told.{Told, Puts, PutsFront}
+use Rattle.fault_counts.specs.Told.{Told, Puts, PutsPrefix}
 use Rattle.fault_counts.proofs.InRow.{puts_none, puts_more}
 use Rattle.mesh_out.specs.Stream.{PutsBefore}
 
 -- nothing was put
-pub puts_nothing : (held : Told) (bytes : List ℕ) → PutsBefore held held bytes bytes
-puts_nothing held bytes = record { put = []; parts = refl; puts = puts_none held }
+pub puts_nothing : (written : Told) (bytes : List ℕ) → PutsBefore written written bytes bytes
+puts_nothing written bytes = record { put = []; parts = refl; puts = puts_none written }
 
 -- some of the rest was put
 pub puts_on :
@@ -46,20 +46,20 @@ pub puts_all :
 puts_all old mid new bytes rest h i = rw h.parts (puts_more old mid new h.put rest h.puts i)
 
 -- a front of the bytes and of what follows them was put
-pub puts_front :
+pub puts_prefix :
     (old new : Told) (bytes rest more : List ℕ) → PutsBefore old new bytes rest →
-    PutsFront old new (bytes ++ more)
-puts_front old new bytes rest more h =
+    PutsPrefix old new (bytes ++ more)
+puts_prefix old new bytes rest more h =
     let parts = h.parts in
     let joined = append_assoc h.put rest more in
     let whole : bytes ++ more ≡ h.put ++ (rest ++ more) = cc in
     (length h.put, rw whole (omega (arith, length-append h.put (rest ++ more))), rw (whole, take-append_seam h.put (rest ++ more)) h.puts)
 
 -- a front of the rest and of what follows it was put
-pub puts_front_behind :
+pub puts_prefix_behind :
     (old mid new : Told) (bytes rest more : List ℕ) → PutsBefore old mid bytes rest →
-    PutsFront mid new (rest ++ more) → PutsFront old new (bytes ++ more)
-puts_front_behind old mid new bytes rest more h i =
+    PutsPrefix mid new (rest ++ more) → PutsPrefix old new (bytes ++ more)
+puts_prefix_behind old mid new bytes rest more h i =
     let parts = h.parts in
     let joined = append_assoc h.put rest more in
     let whole : bytes ++ more ≡ h.put ++ (rest ++ more) = cc in (
@@ -70,7 +70,7 @@ puts_front_behind old mid new bytes rest more h i =
 
 -- a front of the bytes is a front of them with what follows
 pub front_of_more :
-    (old new : Told) (bytes more : List ℕ) → PutsFront old new bytes → PutsFront old new (bytes ++ more)
+    (old new : Told) (bytes more : List ℕ) → PutsPrefix old new bytes → PutsPrefix old new (bytes ++ more)
 front_of_more old new bytes more i =
     let front : take i.0 (bytes ++ more) ≡ take i.0 bytes = take-append-le _ _ _ i.1 in
     (i.0, omega (arith, length-append bytes more, i.1), rw front i.2)

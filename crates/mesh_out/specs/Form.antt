@@ -1,7 +1,7 @@
 -- The file of points and faces in each format: a header, the vertices and the faces.
 use Rattle.std.specs.Prelude.{ℕ, List, ◌++◌, length}
 use Rattle.std.specs.List.{flat_map}
-use Rattle.mesh_data.specs.declared.geometry.Point.{Point}
+use Rattle.oemm_octree.specs.declared.points.Point.{Point}
 use Rattle.mesh_data.specs.declared.geometry.Tri.{Tri}
 use Rattle.mesh_out.specs.declared.form.Form.{Form}
 use Rattle.mesh_out.specs.declared.form.Form.TheVariants.{Off, Ply}

@@ -1,8 +1,8 @@
 -- The lines of an OFF text.
 use Rattle.std.specs.Prelude.{ℕ, List, [], ◌∷◌, ◌++◌, codes}
 use Rattle.std.specs.Fmt.{decimal, signed_decimal}
-use Rattle.mesh_data.specs.Texts.{line}
-use Rattle.mesh_data.specs.declared.geometry.Point.{Point}
+use Rattle.oemm_lists.specs.TextLine.{line}
+use Rattle.oemm_octree.specs.declared.points.Point.{Point}
 use Rattle.mesh_data.specs.declared.geometry.Tri.{Tri}
 
 -- the line OFF, and the line of the numbers of points, of faces and of edges, which stands as 0

@@ -1,7 +1,7 @@
 -- The binary PLY file of points and faces: a text, then whole numbers with their low bytes first.
 use Rattle.std.specs.Prelude.{ℕ, ℤ, List, ◌∷◌, ◌++◌, codes, decimal}
 use Rattle.std.specs.Int.{w16, w32, cast_unsigned, to_le_bytes}
-use Rattle.mesh_data.specs.declared.geometry.Point.{Point}
+use Rattle.oemm_octree.specs.declared.points.Point.{Point}
 use Rattle.mesh_data.specs.declared.geometry.Tri.{Tri}
 
 -- the lines before the elements

@@ -3,19 +3,15 @@
 ghost use Rattle.std.specs.Prelude.{◌≡◌, ◌≤◌, ◌+◌, [], ◌∷◌, ◌++◌, length, drop, IfOk, OnOk};
 ghost use Rattle.fault_counts.specs.Counts.{HasCause};
 ghost use Rattle.oemm_io.specs.Whole.{StaysOpen};
-ghost use Rattle.mesh_out.specs.Block.{block_size, most_bytes};
 ghost use Rattle.mesh_out.specs.Stream.{PutsBefore};
 
 use itoa::{Buffer, Integer};
-use oemm_io::{Failed, Sink};
+use oemm_io::{BLOCK, Failed, Sink};
 use std::alloc::{AllocError, Global};
 use std::marker::Model;
 
-/// How many bytes a block takes.
-const BLOCK: usize = 65536;
-
 /// No header, vertex or face has more bytes.
-const MOST_BYTES: usize = 256;
+pub const RECORD_ROOM: usize = 256;
 
 /// Bytes that wait until they are put into a sink.
 #[derive(Drop)]
@@ -26,13 +22,14 @@ pub struct Block {
 
 impl Model for Block {
     ghost use Rattle.std.specs.Prelude.{◌≤◌, drop, vec_len, vec_capacity};
-    ghost use Rattle.mesh_out.specs.Block.{Waiting, block_size};
+    ghost use Rattle.mesh_out.specs.Block.{Waiting};
+    ghost use Rattle.oemm_io.specs.declared.flows.TheConstants.{BLOCK};
 
     ghost Value = { Waiting };
 
     ghost view = { λ a. record { left = drop a.at a.bytes.items; used = vec_len a.bytes } };
 
-    ghost invariant = { λ a. (a.at ≤ vec_len a.bytes) × (block_size ≤ vec_capacity a.bytes) };
+    ghost invariant = { λ a. (a.at ≤ vec_len a.bytes) × (BLOCK ≤ vec_capacity a.bytes) };
 }
 
 impl Block {
@@ -63,7 +60,7 @@ impl Block {
 
     /// Takes these bytes behind those that it has.
     pub fn push(&mut self, bytes: &[u8])
-        requires { self.old.used + length bytes.now ≤ block_size }
+        requires { self.old.used + length bytes.now ≤ BLOCK }
         ensures left { self.new.left ≡ self.old.left ++ bytes.now }
         ensures used { self.new.used ≡ self.old.used + length bytes.now }
     {
@@ -75,7 +72,7 @@ impl Block {
 
     /// Takes the digits of a number, and one byte behind them.
     pub fn push_number<I: Integer>(&mut self, n: I, end: u8)
-        requires { self.old.used + I.MAX_STR_LEN + 1 ≤ block_size }
+        requires { self.old.used + I.MAX_STR_LEN + 1 ≤ BLOCK }
         ensures left { self.new.left ≡ self.old.left ++ (I.text n ++ end ∷ []) }
         ensures used { self.new.used ≤ self.old.used + I.MAX_STR_LEN + 1 }
     {
@@ -106,7 +103,7 @@ impl Block {
 #[tactic(auto, using(crate::proofs::Streams::puts_nothing, crate::proofs::Streams::puts_on))]
 pub fn flush<O: Sink>(sink: &mut O, block: &mut Block) -> Result<(), Failed>
     ensures ok { OnOk result (block.new ≡ record { left = []; used = 0 }) }
-    ensures puts { PutsBefore (O.held sink.old) (O.held sink.new) block.old.left block.new.left }
+    ensures puts { PutsBefore (O.written sink.old) (O.written sink.new) block.old.left block.new.left }
     ensures open { StaysOpen (O.finished sink.old) (O.finished sink.new) }
     ensures cause { HasCause (O.faults sink.old) (O.faults sink.new) result }
 {
@@ -120,12 +117,12 @@ pub fn flush<O: Sink>(sink: &mut O, block: &mut Block) -> Result<(), Failed>
 
 /// Makes room for a header, a vertex or a face: puts what waits, where there is none.
 pub fn make_room<O: Sink>(sink: &mut O, block: &mut Block) -> Result<(), Failed>
-    ensures ok { OnOk result (block.new.used + most_bytes ≤ block_size) }
-    ensures puts { PutsBefore (O.held sink.old) (O.held sink.new) block.old.left block.new.left }
+    ensures ok { OnOk result (block.new.used + RECORD_ROOM ≤ BLOCK) }
+    ensures puts { PutsBefore (O.written sink.old) (O.written sink.new) block.old.left block.new.left }
     ensures open { StaysOpen (O.finished sink.old) (O.finished sink.new) }
     ensures cause { HasCause (O.faults sink.old) (O.faults sink.new) result }
 {
-    if block.used() <= BLOCK - MOST_BYTES {
+    if block.used() <= BLOCK - RECORD_ROOM {
         return Ok(());
     }
     flush(sink, block)

@@ -3,7 +3,7 @@
 ghost use Rattle.std.specs.Prelude.{◌≡◌, ℕ, List, ◌++◌, length, Some, slice_get};
 ghost use Rattle.std.specs.List.{All, flat_map};
 ghost use Rattle.std.specs.List.Sorted.{IsStrictlyIncreasing};
-ghost use Rattle.mesh_data.specs.declared.geometry.Point.{Point};
+ghost use Rattle.oemm_octree.specs.declared.points.Point.{Point};
 ghost use Rattle.mesh_data.specs.declared.geometry.Tri.{Tri};
 ghost use Rattle.mesh_data.specs.Manifold.{IsTriangleOf};
 ghost use Rattle.mesh_data.specs.Mesh.{Mesh, points_of};
@@ -28,5 +28,6 @@ pub fn form_laws()
 pub fn position_laws()
     ensures place { (names : List ℕ) (v k : ℕ) → IsStrictlyIncreasing names → slice_get names k ≡ Some v →
         position_of names v ≡ k }
-    ensures faces { (m : Mesh) → All (IsTriangleOf m.vertices) m.tris → All (IsBelow (length (points_of m))) (faces_of m) }
+    ensures faces { (m : Mesh) → All (IsTriangleOf m.vertices) m.tris →
+        All (IsBelow (length (points_of m))) (faces_of m) }
 {}

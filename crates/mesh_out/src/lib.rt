@@ -3,7 +3,7 @@
 
 mod block;
 mod form;
-mod laws;
+pub mod laws;
 mod ply;
 mod positions;
 mod records;
@@ -11,7 +11,6 @@ mod stream;
 mod whole;
 
 pub use form::{Form, OutFault};
-pub use laws::{form_laws, position_laws};
 pub use positions::renumber;
 pub use stream::MeshOut;
 pub use whole::write_mesh;

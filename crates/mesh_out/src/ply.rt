@@ -1,15 +1,16 @@
 //! The header, vertices and faces of a PLY file, as bytes in a block.
 
 ghost use Rattle.std.specs.Prelude.{◌≡◌, ◌≤◌, ◌+◌, ◌++◌};
-ghost use Rattle.mesh_out.specs.Block.{block_size, most_bytes};
 ghost use Rattle.mesh_out.specs.Ply.{ply_opening, ply_vertices, ply_faces, ply_head, short, int, ply_vertex, ply_face};
 
-use crate::block::Block;
-use mesh_data::{Point, Tri};
+use crate::block::{Block, RECORD_ROOM};
+use mesh_data::Tri;
+use oemm_io::BLOCK;
+use oemm_octree::Point;
 
 #[tactic(auto, unfolding(crate::specs::Ply::ply_opening))]
 fn push_opening(block: &mut Block)
-    requires { block.old.used + 40 ≤ block_size }
+    requires { block.old.used + 40 ≤ BLOCK }
     ensures left { block.new.left ≡ block.old.left ++ ply_opening }
     ensures used { block.new.used ≤ block.old.used + 40 }
 {
@@ -18,7 +19,7 @@ fn push_opening(block: &mut Block)
 
 #[tactic(auto, unfolding(crate::specs::Ply::ply_vertices))]
 fn push_vertices(block: &mut Block, count: u32)
-    requires { block.old.used + 80 ≤ block_size }
+    requires { block.old.used + 80 ≤ BLOCK }
     ensures left { block.new.left ≡ block.old.left ++ ply_vertices count }
     ensures used { block.new.used ≤ block.old.used + 80 }
 {
@@ -29,7 +30,7 @@ fn push_vertices(block: &mut Block, count: u32)
 
 #[tactic(auto, unfolding(crate::specs::Ply::ply_faces))]
 fn push_faces(block: &mut Block, count: u32)
-    requires { block.old.used + 80 ≤ block_size }
+    requires { block.old.used + 80 ≤ BLOCK }
     ensures left { block.new.left ≡ block.old.left ++ ply_faces count }
     ensures used { block.new.used ≤ block.old.used + 80 }
 {
@@ -40,7 +41,7 @@ fn push_faces(block: &mut Block, count: u32)
 
 /// The header of a file with these numbers of vertices and faces.
 pub fn push_ply_head(block: &mut Block, vertices: u32, faces: u32)
-    requires { block.old.used + most_bytes ≤ block_size }
+    requires { block.old.used + RECORD_ROOM ≤ BLOCK }
     ensures { block.new.left ≡ block.old.left ++ ply_head vertices faces }
 {
     push_opening(block);
@@ -51,7 +52,7 @@ pub fn push_ply_head(block: &mut Block, vertices: u32, faces: u32)
 
 #[tactic(auto, unfolding(crate::specs::Ply::short))]
 fn push_short(block: &mut Block, x: i16)
-    requires { block.old.used + 2 ≤ block_size }
+    requires { block.old.used + 2 ≤ BLOCK }
     ensures left { block.new.left ≡ block.old.left ++ short x }
     ensures used { block.new.used ≡ block.old.used + 2 }
 {
@@ -60,7 +61,7 @@ fn push_short(block: &mut Block, x: i16)
 
 /// A vertex.
 pub fn push_ply_vertex(block: &mut Block, p: &Point)
-    requires { block.old.used + most_bytes ≤ block_size }
+    requires { block.old.used + RECORD_ROOM ≤ BLOCK }
     ensures { block.new.left ≡ block.old.left ++ ply_vertex p.now }
 {
     push_short(block, p.x);
@@ -70,7 +71,7 @@ pub fn push_ply_vertex(block: &mut Block, p: &Point)
 
 #[tactic(auto, unfolding(crate::specs::Ply::int))]
 fn push_int(block: &mut Block, i: u32)
-    requires { block.old.used + 4 ≤ block_size }
+    requires { block.old.used + 4 ≤ BLOCK }
     ensures left { block.new.left ≡ block.old.left ++ int i }
     ensures used { block.new.used ≡ block.old.used + 4 }
 {
@@ -79,7 +80,7 @@ fn push_int(block: &mut Block, i: u32)
 
 /// A face.
 pub fn push_ply_face(block: &mut Block, t: &Tri)
-    requires { block.old.used + most_bytes ≤ block_size }
+    requires { block.old.used + RECORD_ROOM ≤ BLOCK }
     ensures { block.new.left ≡ block.old.left ++ ply_face t.now }
 {
     block.push(&[3]);

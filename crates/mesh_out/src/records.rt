@@ -1,17 +1,18 @@
 //! Headers, vertices and faces, as bytes in a block.
 
 ghost use Rattle.std.specs.Prelude.{◌≡◌, ◌≤◌, ◌+◌, ◌++◌};
-ghost use Rattle.mesh_out.specs.Block.{block_size, most_bytes};
 ghost use Rattle.mesh_out.specs.Form.{form_head, form_vertex, form_face};
 ghost use Rattle.mesh_out.specs.Off.{off_head, point_line, face_line};
 
-use crate::block::Block;
+use crate::block::{Block, RECORD_ROOM};
 use crate::form::Form;
 use crate::ply::{push_ply_face, push_ply_head, push_ply_vertex};
-use mesh_data::{Point, Tri};
+use mesh_data::Tri;
+use oemm_io::BLOCK;
+use oemm_octree::Point;
 
 fn push_off_head(block: &mut Block, vertices: u32, faces: u32)
-    requires { block.old.used + most_bytes ≤ block_size }
+    requires { block.old.used + RECORD_ROOM ≤ BLOCK }
     ensures { block.new.left ≡ block.old.left ++ off_head vertices faces }
 {
     block.push(b"OFF\n");
@@ -21,7 +22,7 @@ fn push_off_head(block: &mut Block, vertices: u32, faces: u32)
 }
 
 fn push_point_line(block: &mut Block, p: &Point)
-    requires { block.old.used + most_bytes ≤ block_size }
+    requires { block.old.used + RECORD_ROOM ≤ BLOCK }
     ensures { block.new.left ≡ block.old.left ++ point_line p.now }
 {
     block.push_number(p.x, b' ');
@@ -30,7 +31,7 @@ fn push_point_line(block: &mut Block, p: &Point)
 }
 
 fn push_face_line(block: &mut Block, t: &Tri)
-    requires { block.old.used + most_bytes ≤ block_size }
+    requires { block.old.used + RECORD_ROOM ≤ BLOCK }
     ensures { block.new.left ≡ block.old.left ++ face_line t.now }
 {
     block.push(b"3 ");
@@ -41,7 +42,7 @@ fn push_face_line(block: &mut Block, t: &Tri)
 
 /// The header of a file with these numbers of vertices and faces.
 pub fn push_head(block: &mut Block, form: Form, vertices: u32, faces: u32)
-    requires { block.old.used + most_bytes ≤ block_size }
+    requires { block.old.used + RECORD_ROOM ≤ BLOCK }
     ensures { block.new.left ≡ block.old.left ++ form_head form vertices faces }
 {
     match form {
@@ -52,7 +53,7 @@ pub fn push_head(block: &mut Block, form: Form, vertices: u32, faces: u32)
 
 /// A vertex.
 pub fn push_vertex(block: &mut Block, form: Form, p: &Point)
-    requires { block.old.used + most_bytes ≤ block_size }
+    requires { block.old.used + RECORD_ROOM ≤ BLOCK }
     ensures { block.new.left ≡ block.old.left ++ form_vertex form p.now }
 {
     match form {
@@ -63,7 +64,7 @@ pub fn push_vertex(block: &mut Block, form: Form, p: &Point)
 
 /// A face.
 pub fn push_face(block: &mut Block, form: Form, t: &Tri)
-    requires { block.old.used + most_bytes ≤ block_size }
+    requires { block.old.used + RECORD_ROOM ≤ BLOCK }
     ensures { block.new.left ≡ block.old.left ++ form_face form t.now }
 {
     match form {

@@ -2,7 +2,7 @@
 
 ghost use Rattle.std.specs.Prelude.{◌≡◌, ◌<◌, ◌^◌, ◌++◌, true, is_ok, if◌then◌else◌, IfOk, IfErr, OnOk, OnErr};
 ghost use Rattle.fault_counts.specs.Counts.{HasCause};
-ghost use Rattle.fault_counts.specs.Told.{Puts, PutsFront};
+ghost use Rattle.fault_counts.specs.Told.{Puts, PutsPrefix};
 ghost use Rattle.oemm_io.specs.Whole.{StaysOpen};
 ghost use Rattle.mesh_out.specs.Form.{form_head, form_vertex, form_face};
 ghost use Rattle.mesh_out.specs.Stream.{after_vertex, after_face, PutsBefore};
@@ -10,8 +10,9 @@ ghost use Rattle.mesh_out.specs.Stream.{after_vertex, after_face, PutsBefore};
 use crate::block::{Block, make_room};
 use crate::form::{Form, OutFault};
 use crate::records::{push_face, push_head, push_vertex};
-use mesh_data::{Name, Point, Tri};
+use mesh_data::{Name, Tri};
 use oemm_io::{Failed, Sink, put_all};
+use oemm_octree::Point;
 use std::alloc::Global;
 use std::marker::Model;
 
@@ -89,9 +90,9 @@ impl<O: Sink> MeshOut<O> {
     pub fn vertex(&mut self, p: Point) -> Result<(), Failed>
         requires { 0 < self.old.plan.vertices }
         ensures plan { self.new.plan ≡ (if is_ok result then after_vertex self.old.plan else self.old.plan) }
-        ensures ok { OnOk result (PutsBefore (O.held self.old.sink) (O.held self.new.sink)
+        ensures ok { OnOk result (PutsBefore (O.written self.old.sink) (O.written self.new.sink)
             (self.old.buffered ++ form_vertex self.old.plan.form p) self.new.buffered) }
-        ensures err { OnErr result (PutsBefore (O.held self.old.sink) (O.held self.new.sink)
+        ensures err { OnErr result (PutsBefore (O.written self.old.sink) (O.written self.new.sink)
             self.old.buffered self.new.buffered) }
         ensures open { StaysOpen (O.finished self.old.sink) (O.finished self.new.sink) }
         ensures cause { HasCause (O.faults self.old.sink) (O.faults self.new.sink) result }
@@ -114,9 +115,9 @@ impl<O: Sink> MeshOut<O> {
         requires b { b < 2 ^ 31 }
         requires c { c < 2 ^ 31 }
         ensures plan { self.new.plan ≡ (if is_ok result then after_face self.old.plan else self.old.plan) }
-        ensures ok { OnOk result (PutsBefore (O.held self.old.sink) (O.held self.new.sink)
+        ensures ok { OnOk result (PutsBefore (O.written self.old.sink) (O.written self.new.sink)
             (self.old.buffered ++ form_face self.old.plan.form (record { a = a; b = b; c = c })) self.new.buffered) }
-        ensures err { OnErr result (PutsBefore (O.held self.old.sink) (O.held self.new.sink)
+        ensures err { OnErr result (PutsBefore (O.written self.old.sink) (O.written self.new.sink)
             self.old.buffered self.new.buffered) }
         ensures open { StaysOpen (O.finished self.old.sink) (O.finished self.new.sink) }
         ensures cause { HasCause (O.faults self.old.sink) (O.faults self.new.sink) result }
@@ -140,10 +141,10 @@ impl<O: Sink> MeshOut<O> {
     pub fn end(self) -> (O, Result<(), Failed>)
         requires vertices { self.plan.vertices ≡ 0 }
         requires faces { self.plan.faces ≡ 0 }
-        ensures ok { OnOk result.1 (Puts (O.held self.sink) (O.held result.0) self.buffered) }
+        ensures ok { OnOk result.1 (Puts (O.written self.sink) (O.written result.0) self.buffered) }
         ensures finished { OnOk result.1 (O.finished result.0 ≡ true) }
         ensures open { OnErr result.1 (StaysOpen (O.finished self.sink) (O.finished result.0)) }
-        ensures front { PutsFront (O.held self.sink) (O.held result.0) self.buffered }
+        ensures front { PutsPrefix (O.written self.sink) (O.written result.0) self.buffered }
         ensures cause { HasCause (O.faults self.sink) (O.faults result.0) result.1 }
     {
         let MeshOut { sink, block, .. } = self;

@@ -3,8 +3,9 @@ ghost use Rattle.std.specs.List.{All};
 ghost use Rattle.mesh_data.specs.Triangles.{IsBelow};
 
 use crate::{Form, MeshOut, OutFault, renumber, write_mesh};
-use mesh_data::{Name, NameSet, Point, Tri};
+use mesh_data::{Name, NameSet, Tri};
 use oemm_io::{Failed, MemSink, Sink};
+use oemm_octree::Point;
 use std::alloc::{AllocError, Global};
 use std::test::Fail;
 

@@ -7,7 +7,7 @@ use Rattle.std.proofs.lemmas.Fmt.{decimal_is_IsNumeral_wide, length-decimal-le_w
 use Rattle.std.proofs.lemmas.Str.Parse.{digit_from_value}
 use Rattle.std.proofs.lemmas.Int.{ints}
 use Rattle.std.proofs.lemmas.Bool.Decides.{nat_tests}
-use Rattle.mesh_data.specs.Octree.{on_grid}
+use Rattle.oemm_octree.specs.Octree.{on_grid}
 
 -- a byte that ends no line, parts no words, begins no comment and is no plus
 abbrev pub IsInk : ℕ → Type 0

@@ -4,10 +4,10 @@ use Rattle.std.specs.List.{AllByRecursion, before_first, position_or_len}
 use Rattle.std.proofs.lemmas.List.{take_all}
 use Rattle.std.proofs.lemmas.List.Elements.{All-from_recursion}
 use Rattle.std.proofs.lemmas.List.Sums.{position_or_len_is}
-use Rattle.mesh_data.specs.Texts.{line}
+use Rattle.oemm_lists.specs.TextLine.{line}
 use Rattle.oemm_lines.specs.Words.{is_blank, words_of}
 use Rattle.oemm_lines.specs.Lines.{without_return}
-use Rattle.oemm_lines.specs.Stream.{behind, line_of, told_lines, word_in, words_in}
+use Rattle.oemm_lines.specs.Stream.{line_then, line_of, told_lines, word_in, words_in}
 use Rattle.oemm_lines.proofs.WordLaws.{word_first, word_last, words_of-empty}
 use Rattle.oemm_lines.proofs.WordPlaces.{word_texts}
 use Rattle.oemm_lines.proofs.FlowLaws.{told_lines-ended}
@@ -101,13 +101,13 @@ body_short words written =
 -- a line that is written comes first, and then what follows it
 pub body_told : (comments : Bool) (budget : ℕ) (words : List (List ℕ)) (at number : ℕ) (rest : List ℕ) → IsWritten words → at + 105 ≤ budget →
     told_lines comments budget at number (line words ++ rest)
-    ≡ behind (line_of comments at number (body words)) (told_lines comments budget (at + (length (body words) + 1)) (number + 1) rest)
+    ≡ line_then (line_of comments at number (body words)) (told_lines comments budget (at + (length (body words) + 1)) (number + 1) rest)
 body_told comments budget words at number rest written within =
     let short : length (body words) + 1 ≤ 105 = body_short words written in
     let inside : AllByRecursion IsInside (body words) = body_inside words written.inked in
     ap (told_lines comments budget at number) (line_is_body words rest)
     ∙ told_lines-ended comments budget at number (body words) rest (no_feed (body words) inside) (omega arith) (omega arith)
-    ∙ ap (λ text. behind (line_of comments at number text) (told_lines comments budget (at + (length (body words) + 1)) (number + 1) rest)) (no_return (body words) inside)
+    ∙ ap (λ text. line_then (line_of comments at number text) (told_lines comments budget (at + (length (body words) + 1)) (number + 1) rest)) (no_return (body words) inside)
 
 -- in a line that is written no comment begins
 body_uncommented : (words : List (List ℕ)) → AllByRecursion IsInked words → before_first (λ c. c == 35) (body words) ≡ body words

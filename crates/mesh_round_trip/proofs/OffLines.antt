@@ -2,17 +2,17 @@
 use Rattle.std.proofs.Common.{◌≡◌, ℕ, ◌+◌, ◌<◌, ◌≤◌, true, List, [], ◌∷◌, ◌++◌, length, refl, ap, ◌∙◌, arith}
 use Rattle.std.specs.List.{filter}
 use Rattle.std.proofs.lemmas.List.{length-map}
-use Rattle.mesh_data.specs.Texts.{line}
+use Rattle.oemm_limits.specs.declared.TheConstants.{MOST_MESH_BYTES}
+use Rattle.oemm_lists.specs.TextLine.{line}
 use Rattle.oemm_lines.specs.declared.parts.Line.{Line}
 use Rattle.oemm_lines.specs.declared.parts.Word.{Word}
 use Rattle.oemm_lines.specs.Stream.{Flow, line_of, told_lines, word_in, texts_of}
-use Rattle.mesh_reading.specs.Faults.{most_mesh_bytes}
 use Rattle.off_reader.specs.Grammar.{has_any, has_words}
 use Rattle.mesh_round_trip.proofs.Lines.{IsWritten, body, body_told, body_short, words_told}
 
 -- the lines with words of bytes that stand at this place of a file
 abbrev pub lines_at : ℕ → ℕ → List ℕ → List Line
-lines_at at number bytes = filter has_words (told_lines true most_mesh_bytes at number bytes).lines
+lines_at at number bytes = filter has_words (told_lines true MOST_MESH_BYTES at number bytes).lines
 
 -- the first of them has these words
 pub record Begins (words : List (List ℕ)) (at number : ℕ) (rest : List ℕ) : Type 0 where
@@ -33,7 +33,7 @@ kept : (l : Line) (ls : List Line) → has_words l ≡ true → filter has_words
 kept l ls some = rw some
 
 -- a line that is written is read as a line of its words
-pub begins : (words : List (List ℕ)) (at number : ℕ) (rest : List ℕ) → IsWritten words → at + 105 ≤ most_mesh_bytes → Begins words at number rest
+pub begins : (words : List (List ℕ)) (at number : ℕ) (rest : List ℕ) → IsWritten words → at + 105 ≤ MOST_MESH_BYTES → Begins words at number rest
 begins words at number rest written within =
     let first : Line = line_of true at number (body words) in
     let says : texts_of first ≡ words = words_told true words written.inked in
@@ -43,6 +43,6 @@ begins words at number rest written within =
       next = at + (length (body words) + 1);
       says = says;
       near = omega arith;
-      is = ap (λ (f : Flow). filter has_words f.lines) (body_told true most_mesh_bytes words at number rest written within)
-          ∙ kept first (told_lines true most_mesh_bytes (at + (length (body words) + 1)) (number + 1) rest).lines (some_words first words says written.some);
+      is = ap (λ (f : Flow). filter has_words f.lines) (body_told true MOST_MESH_BYTES words at number rest written within)
+          ∙ kept first (told_lines true MOST_MESH_BYTES (at + (length (body words) + 1)) (number + 1) rest).lines (some_words first words says written.some);
     }

@@ -3,12 +3,13 @@ use Rattle.std.proofs.Common.{◌≡◌, refl, ℕ, ◌+◌, ◌≤◌, false, L
 use Rattle.std.specs.List.{AllByRecursion}
 use Rattle.std.specs.Fmt.{decimal}
 use Rattle.std.proofs.lemmas.List.Elements.{recursion_from_All}
-use Rattle.mesh_data.specs.declared.geometry.Point.{Point}
+use Rattle.oemm_limits.specs.declared.TheConstants.{MOST_ITEMS, MOST_MESH_BYTES}
+use Rattle.oemm_octree.specs.declared.points.Point.{Point}
 use Rattle.mesh_data.specs.declared.geometry.Tri.{Tri}
-use Rattle.mesh_data.specs.declared.items.Item.TheVariants.{Counts, Vertex, Face}
-use Rattle.mesh_data.specs.declared.items.MeshFault.{MeshFault}
-use Rattle.mesh_data.specs.Reading.{behind, most_items}
-use Rattle.mesh_data.specs.Texts.{line}
+use Rattle.mesh_items.specs.declared.items.Item.TheVariants.{Counts, Vertex, Face}
+use Rattle.mesh_items.specs.declared.items.MeshFault.{MeshFault}
+use Rattle.mesh_items.specs.Reading.{item_then}
+use Rattle.oemm_lists.specs.TextLine.{line}
 use Rattle.oemm_lines.specs.Stream.{told_lines}
 use Rattle.mesh_out.specs.declared.form.Form.TheVariants.{Ply}
 use Rattle.mesh_out.specs.Form.{form_text}
@@ -16,12 +17,12 @@ use Rattle.mesh_out.specs.Ply.{ply_opening, ply_vertices, ply_faces, ply_head, p
 use Rattle.ply_header.specs.declared.layout.ScalarType.TheVariants.{I16}
 use Rattle.ply_header.specs.declared.layout.Axis.TheVariants.{X, Y}
 use Rattle.ply_header.specs.declared.layout.Property.TheVariants.{Coordinate}
-use Rattle.mesh_reading.specs.Faults.{most_mesh_bytes, end_fault}
+use Rattle.mesh_items.specs.Faults.{end_fault}
 use Rattle.ply_header.specs.Header.{nothing_declared}
 use Rattle.ply_reader.specs.Mesh.{from_first, laid, ply_reading}
 use Rattle.mesh_round_trip.specs.Whole.{IsWritable}
-use Rattle.mesh_reading.specs.Progress.{reading_of}
-use Rattle.mesh_data.specs.Octree.{IsOnGrid}
+use Rattle.mesh_items.specs.Progress.{reading_of}
+use Rattle.oemm_octree.specs.Octree.{IsOnGrid}
 use Rattle.mesh_round_trip.proofs.Ink.{all_inked, decimal_inked}
 use Rattle.mesh_round_trip.proofs.Lines.{IsWritten}
 use Rattle.mesh_round_trip.proofs.Wholes.{IsFace, faces_held}
@@ -83,7 +84,7 @@ first_written = record { some = omega arith; few = omega arith; inked = all_inke
 format_written : IsWritten format_words
 format_written = record { some = omega arith; few = omega arith; inked = all_inked format_words [] refl tt }
 
-vertex_written : (v : ℕ) → v ≤ most_items → IsWritten (vertex_words v)
+vertex_written : (v : ℕ) → v ≤ MOST_ITEMS → IsWritten (vertex_words v)
 vertex_written v few = record { some = omega arith; few = omega arith; inked = all_inked (codes "element" ∷ codes "vertex" ∷ []) (decimal v ∷ []) refl (decimal_inked v (omega arith), tt) }
 
 x_written : IsWritten (axis_words (codes "x"))
@@ -95,7 +96,7 @@ y_written = record { some = omega arith; few = omega arith; inked = all_inked (a
 z_written : IsWritten (axis_words (codes "z"))
 z_written = record { some = omega arith; few = omega arith; inked = all_inked (axis_words (codes "z")) [] refl tt }
 
-face_written : (f : ℕ) → f ≤ most_items → IsWritten (face_words f)
+face_written : (f : ℕ) → f ≤ MOST_ITEMS → IsWritten (face_words f)
 face_written f few = record { some = omega arith; few = omega arith; inked = all_inked (codes "element" ∷ codes "face" ∷ []) (decimal f ∷ []) refl (decimal_inked f (omega arith), tt) }
 
 corners_written : IsWritten corners_words
@@ -105,7 +106,7 @@ end_written : IsWritten end_words
 end_written = record { some = omega arith; few = omega arith; inked = all_inked end_words [] refl tt }
 
 -- the lines from that of the faces on
-faces_declared : (end : MeshFault) (v f at number : ℕ) (tail : List ℕ) → f ≤ most_items → at + 315 ≤ most_mesh_bytes →
+faces_declared : (end : MeshFault) (v f at number : ℕ) (tail : List ℕ) → f ≤ MOST_ITEMS → at + 315 ≤ MOST_MESH_BYTES →
     (next : ℕ) × (next ≤ at + 315) × (header_at end at number (with_vertex v along_axes) (from_face f tail) ≡ laid (written_layout v f) (rest_at next tail))
 faces_declared end v f at number tail few within =
     let face : Declares end at number (with_vertex v along_axes) (from_face f tail) (with_face v f []) (line corners_words ++ from_end tail) =
@@ -120,7 +121,7 @@ faces_declared end v f at number tail few within =
     (last.next, omega arith, face.is ∙ corners.is ∙ last.is)
 
 -- the lines of the coordinates
-axes_declared : (end : MeshFault) (v f at number : ℕ) (tail : List ℕ) → at + 315 ≤ most_mesh_bytes →
+axes_declared : (end : MeshFault) (v f at number : ℕ) (tail : List ℕ) → at + 315 ≤ MOST_MESH_BYTES →
     (next : ℕ) × (next ≤ at + 315) × (header_at end at number (with_vertex v []) (from_x f tail) ≡ header_at end next (number + 1 + 1 + 1) (with_vertex v along_axes) (from_face f tail))
 axes_declared end v f at number tail within =
     let from_z : List ℕ = line (axis_words (codes "z")) ++ from_face f tail in
@@ -137,8 +138,8 @@ axes_declared end v f at number tail within =
     (z.next, omega arith, x.is ∙ y.is ∙ z.is)
 
 -- the whole header
-head_read : (end : MeshFault) (v f : ℕ) (tail : List ℕ) → v ≤ most_items → f ≤ most_items →
-    (next : ℕ) × (next ≤ 945) × (from_first end (told_lines false most_mesh_bytes 0 1 (ply_head v f ++ tail)).lines (rest_at 0 (ply_head v f ++ tail)) ≡ laid (written_layout v f) (rest_at next tail))
+head_read : (end : MeshFault) (v f : ℕ) (tail : List ℕ) → v ≤ MOST_ITEMS → f ≤ MOST_ITEMS →
+    (next : ℕ) × (next ≤ 945) × (from_first end (told_lines false MOST_MESH_BYTES 0 1 (ply_head v f ++ tail)).lines (rest_at 0 (ply_head v f ++ tail)) ≡ laid (written_layout v f) (rest_at next tail))
 head_read end v f tail few fewer =
     let first : Opens end (line first_words ++ (line format_words ++ from_vertex v f tail)) (line format_words ++ from_vertex v f tail) =
     opens end first_words (line format_words ++ from_vertex v f tail) first_written refl in
@@ -153,20 +154,20 @@ head_read end v f tail few fewer =
     let faces = faces_declared end v f axes.0 7 tail fewer (omega (arith, axes.1)) in (
       faces.0,
       omega (arith, axes.1, faces.1),
-      ap (λ bytes. from_first end (told_lines false most_mesh_bytes 0 1 bytes).lines (rest_at 0 bytes)) (head_is v f tail)
+      ap (λ bytes. from_first end (told_lines false MOST_MESH_BYTES 0 1 bytes).lines (rest_at 0 bytes)) (head_is v f tail)
           ∙ first.is ∙ format.is ∙ vertex.is ∙ axes.2 ∙ faces.2,
     )
 
-whole_read : (end : MeshFault) (points : List Point) (faces : List Tri) → length points ≤ most_items → length faces ≤ most_items → AllByRecursion IsOnGrid points → AllByRecursion (IsFace (length points)) faces →
-    from_first end (told_lines false most_mesh_bytes 0 1 (form_text Ply points faces)).lines (rest_at 0 (form_text Ply points faces)) ≡ reading_of points faces
+whole_read : (end : MeshFault) (points : List Point) (faces : List Tri) → length points ≤ MOST_ITEMS → length faces ≤ MOST_ITEMS → AllByRecursion IsOnGrid points → AllByRecursion (IsFace (length points)) faces →
+    from_first end (told_lines false MOST_MESH_BYTES 0 1 (form_text Ply points faces)).lines (rest_at 0 (form_text Ply points faces)) ≡ reading_of points faces
 whole_read end points faces few fewer grid held =
     let head = head_read end (length points) (length faces) (flat_map ply_vertex points ++ flat_map ply_face faces) few fewer in
     head.2
-    ∙ ap (behind (Counts (length points) (length faces))) (mesh_read points faces few grid held head.0 (omega (arith, head.1)))
+    ∙ ap (item_then (Counts (length points) (length faces))) (mesh_read points faces few grid held head.0 (omega (arith, head.1)))
     ∙ ap (λ items. record { items = Counts (length points) (length faces) ∷ (map Vertex points ++ items); fault = None }) (append-nil (map Face faces))
 
 pub ply_read : (points : List Point) (faces : List Tri) → IsWritable points faces → ply_reading (form_text Ply points faces) ≡ reading_of points faces
 ply_read points faces writable =
     let bytes : List ℕ = form_text Ply points faces in
-    whole_read (end_fault (length bytes) (told_lines false most_mesh_bytes 0 1 bytes).fault) points faces writable.few_points writable.few_faces
+    whole_read (end_fault (length bytes) (told_lines false MOST_MESH_BYTES 0 1 bytes).fault) points faces writable.few_points writable.few_faces
     (recursion_from_All IsOnGrid points writable.points_on_grid) (faces_held points faces writable)

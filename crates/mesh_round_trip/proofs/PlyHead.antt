@@ -2,13 +2,14 @@
 use Rattle.std.proofs.Common.{◌≡◌, refl, ℕ, ◌+◌, ◌^◌, ◌<◌, ◌≤◌, true, false, if◌then◌else◌, List, [], ◌∷◌, ◌++◌, length, drop, Some, Ok, codes, ap, ◌∙◌, arith, lt-ltb, le-leb}
 use Rattle.std.specs.Fmt.{decimal}
 use Rattle.std.proofs.Math.Seq.{drop-append_seam, drop-append-add}
-use Rattle.mesh_data.specs.declared.items.MeshFault.{MeshFault}
-use Rattle.mesh_data.specs.Reading.{Reading, most_items}
-use Rattle.mesh_data.specs.Texts.{line}
+use Rattle.oemm_limits.specs.declared.TheConstants.{MOST_ITEMS, MOST_MESH_BYTES}
+use Rattle.mesh_items.specs.declared.items.MeshFault.{MeshFault}
+use Rattle.mesh_items.specs.Reading.{Reading}
+use Rattle.oemm_lists.specs.TextLine.{line}
 use Rattle.oemm_lines.specs.declared.parts.Line.{Line}
-use Rattle.oemm_lines.specs.Numbers.{whole_of}
+use Rattle.oemm_lines.specs.Numbers.{unsigned_of}
 use Rattle.oemm_lines.specs.Stream.{Flow, line_of, told_lines, texts_of}
-use Rattle.oemm_lines.proofs.NumberLaws.{whole_of-decimal}
+use Rattle.oemm_lines.proofs.NumberLaws.{unsigned_of-decimal}
 use Rattle.ply_header.specs.declared.layout.ByteOrder.TheVariants.{Little}
 use Rattle.ply_header.specs.declared.layout.ScalarType.TheVariants.{I16}
 use Rattle.ply_header.specs.declared.layout.Axis.TheVariants.{X, Y}
@@ -21,7 +22,6 @@ use Rattle.ply_header.specs.declared.layout.Layout.{Layout}
 use Rattle.ply_header.specs.declared.layout.Header.{Header}
 use Rattle.ply_header.specs.Layout.{scalar_named, axis_named, names_corners}
 use Rattle.ply_header.specs.Header.{nothing_declared, order_of, role_named, limited, count_of, with_element, property_named, listed, property_of, with_property, declared_by, header_after, ends, missing, laid_out, layout_of}
-use Rattle.mesh_reading.specs.Faults.{most_mesh_bytes}
 use Rattle.ply_reader.specs.Body.{Rest, forward}
 use Rattle.ply_reader.specs.Mesh.{counted, declared, laid, end_size, behind_line, is_first, from_header, from_first}
 use Rattle.mesh_round_trip.proofs.Lines.{IsWritten, body, body_told, words_told, body_short, line_is_body}
@@ -40,11 +40,11 @@ behind_written words at number rest =
 
 -- the lines of these bytes
 abbrev lines_at : ℕ → ℕ → List ℕ → List Line
-lines_at at number bytes = (told_lines false most_mesh_bytes at number bytes).lines
+lines_at at number bytes = (told_lines false MOST_MESH_BYTES at number bytes).lines
 
-lines_next : (words : List (List ℕ)) (at number : ℕ) (rest : List ℕ) → IsWritten words → at + 105 ≤ most_mesh_bytes →
+lines_next : (words : List (List ℕ)) (at number : ℕ) (rest : List ℕ) → IsWritten words → at + 105 ≤ MOST_MESH_BYTES →
     lines_at at number (line words ++ rest) ≡ line_of false at number (body words) ∷ lines_at (at + (length (body words) + 1)) (number + 1) rest
-lines_next words at number rest written within = ap (λ (f : Flow). f.lines) (body_told false most_mesh_bytes words at number rest written within)
+lines_next words at number rest written within = ap (λ (f : Flow). f.lines) (body_told false MOST_MESH_BYTES words at number rest written within)
 
 -- the reading of these bytes, behind lines that declared this much
 abbrev pub header_at : MeshFault → ℕ → ℕ → Header → List ℕ → Reading
@@ -76,7 +76,7 @@ pub record Declares (end : MeshFault) (at number : ℕ) (h : Header) (bytes : Li
   pub near : next ≤ at + 105
   pub is : header_at end at number h bytes ≡ header_at end next (number + 1) g rest
 
-pub declares : (end : MeshFault) (words : List (List ℕ)) (at number : ℕ) (rest : List ℕ) (h g : Header) → IsWritten words → at + 105 ≤ most_mesh_bytes → ends h words ≡ false → header_after h at words ≡ Ok g → Declares end at number h (line words ++ rest) g rest
+pub declares : (end : MeshFault) (words : List (List ℕ)) (at number : ℕ) (rest : List ℕ) (h g : Header) → IsWritten words → at + 105 ≤ MOST_MESH_BYTES → ends h words ≡ false → header_after h at words ≡ Ok g → Declares end at number h (line words ++ rest) g rest
 declares end words at number rest h g written within on is =
     let short = body_short words written in
     let l : Line = line_of false at number (body words) in
@@ -95,7 +95,7 @@ pub record LaysOut (end : MeshFault) (at number : ℕ) (h : Header) (bytes : Lis
   pub near : next ≤ at + 105
   pub is : header_at end at number h bytes ≡ laid layout (rest_at next rest)
 
-pub lays_out : (end : MeshFault) (words : List (List ℕ)) (at number : ℕ) (rest : List ℕ) (h : Header) (layout : Layout) → IsWritten words → at + 105 ≤ most_mesh_bytes → ends h words ≡ true → layout_of h at words ≡ Ok layout → LaysOut end at number h (line words ++ rest) layout rest
+pub lays_out : (end : MeshFault) (words : List (List ℕ)) (at number : ℕ) (rest : List ℕ) (h : Header) (layout : Layout) → IsWritten words → at + 105 ≤ MOST_MESH_BYTES → ends h words ≡ true → layout_of h at words ≡ Ok layout → LaysOut end at number h (line words ++ rest) layout rest
 lays_out end words at number rest h layout written within off is =
     let short = body_short words written in
     let l : Line = line_of false at number (body words) in
@@ -148,21 +148,21 @@ pub format_after : (at : ℕ) → header_after nothing_declared at (codes "forma
 unfolding header_after order_of
 format_after at = refl
 
-count_of-found : (at : ℕ) (role : Role) (word : List ℕ) (n : ℕ) → whole_of word ≡ Some n → n < 2 ^ 64 → limited at role n ≡ Ok n → count_of at role word ≡ Ok n
+count_of-found : (at : ℕ) (role : Role) (word : List ℕ) (n : ℕ) → unsigned_of word ≡ Some n → n < 2 ^ 64 → limited at role n ≡ Ok n → count_of at role word ≡ Ok n
 unfolding count_of
 count_of-found at role word n found small within =
     rw (found, lt-ltb n (2 ^ 64) small) within
 
-vertices_limited : (at n : ℕ) → n ≤ most_items → limited at Vertices n ≡ Ok n
-vertices_limited at n few = rw (le-leb n most_items few)
+vertices_limited : (at n : ℕ) → n ≤ MOST_ITEMS → limited at Vertices n ≡ Ok n
+vertices_limited at n few = rw (le-leb n MOST_ITEMS few)
 
-faces_limited : (at n : ℕ) → n ≤ most_items → limited at Faces n ≡ Ok n
-faces_limited at n few = rw (le-leb n most_items few)
+faces_limited : (at n : ℕ) → n ≤ MOST_ITEMS → limited at Faces n ≡ Ok n
+faces_limited at n few = rw (le-leb n MOST_ITEMS few)
 
-pub vertex_after : (at v : ℕ) → v ≤ most_items → header_after with_order at (codes "element" ∷ codes "vertex" ∷ decimal v ∷ []) ≡ Ok (with_vertex v [])
+pub vertex_after : (at v : ℕ) → v ≤ MOST_ITEMS → header_after with_order at (codes "element" ∷ codes "vertex" ∷ decimal v ∷ []) ≡ Ok (with_vertex v [])
 unfolding header_after declared_by with_element role_named
 vertex_after at v few =
-    let count : count_of at Vertices (decimal v) ≡ Ok v = count_of-found at Vertices (decimal v) v (whole_of-decimal v (omega arith)) (omega arith) (vertices_limited at v few) in
+    let count : count_of at Vertices (decimal v) ≡ Ok v = count_of-found at Vertices (decimal v) v (unsigned_of-decimal v (omega arith)) (omega arith) (vertices_limited at v few) in
     rw count
 
 pub x_after : (at v : ℕ) → header_after (with_vertex v []) at (codes "property" ∷ codes "short" ∷ codes "x" ∷ []) ≡ Ok (with_vertex v (Coordinate X I16 ∷ []))
@@ -177,10 +177,10 @@ pub z_after : (at v : ℕ) → header_after (with_vertex v (Coordinate X I16 ∷
 unfolding header_after declared_by with_property property_of scalar_named property_named axis_named
 z_after at v = refl
 
-pub face_after : (at v f : ℕ) → f ≤ most_items → header_after (with_vertex v along_axes) at (codes "element" ∷ codes "face" ∷ decimal f ∷ []) ≡ Ok (with_face v f [])
+pub face_after : (at v f : ℕ) → f ≤ MOST_ITEMS → header_after (with_vertex v along_axes) at (codes "element" ∷ codes "face" ∷ decimal f ∷ []) ≡ Ok (with_face v f [])
 unfolding header_after declared_by with_element role_named
 face_after at v f few =
-    let count : count_of at Faces (decimal f) ≡ Ok f = count_of-found at Faces (decimal f) f (whole_of-decimal f (omega arith)) (omega arith) (faces_limited at f few) in
+    let count : count_of at Faces (decimal f) ≡ Ok f = count_of-found at Faces (decimal f) f (unsigned_of-decimal f (omega arith)) (omega arith) (faces_limited at f few) in
     rw count
 
 pub corners_after : (at v f : ℕ) → header_after (with_face v f []) at (codes "property" ∷ codes "list" ∷ codes "uchar" ∷ codes "int" ∷ codes "vertex_indices" ∷ []) ≡ Ok (with_face v f of_corners)

@@ -3,16 +3,16 @@ use Rattle.std.proofs.Common.{◌≡◌, refl, ℕ, suc, ◌+◌, ◌-◌, ◌*�
 use Rattle.std.specs.Int.{w16, cast_unsigned}
 use Rattle.std.proofs.lemmas.Int.{ints}
 use Rattle.std.proofs.Math.Seq.{drop_at}
+use Rattle.oemm_limits.specs.declared.TheConstants.{MOST_ITEMS, MOST_MESH_BYTES}
 use Rattle.byteorder.specs.Endian.{little_number, twos_complement}
 use Rattle.byteorder.specs.Numbers.{little_number-reads_back}
-use Rattle.mesh_data.specs.declared.geometry.Point.{Point}
+use Rattle.oemm_octree.specs.declared.points.Point.{Point}
 use Rattle.mesh_data.specs.declared.geometry.Tri.{Tri}
-use Rattle.mesh_data.specs.declared.items.Item.TheVariants as item
-use Rattle.mesh_data.specs.declared.items.MeshFault.{MeshFault}
-use Rattle.mesh_data.specs.declared.items.MeshFault.TheVariants.{Text}
-use Rattle.mesh_data.specs.declared.items.MeshWhy.TheVariants.{NotTriangle}
-use Rattle.mesh_data.specs.Octree.{on_grid, IsOnGrid}
-use Rattle.mesh_data.specs.Reading.{most_items}
+use Rattle.mesh_items.specs.declared.items.Item.TheVariants as item
+use Rattle.mesh_items.specs.declared.items.MeshFault.{MeshFault}
+use Rattle.mesh_items.specs.declared.items.MeshFault.TheVariants.{Text}
+use Rattle.mesh_items.specs.declared.items.MeshWhy.TheVariants.{NotTriangle}
+use Rattle.oemm_octree.specs.Octree.{on_grid, IsOnGrid}
 use Rattle.mesh_data.specs.Triangles.{IsProper, IsBelow}
 use Rattle.mesh_out.specs.Ply.{short, int, ply_vertex, ply_face}
 use Rattle.ply_header.specs.declared.layout.ByteOrder.TheVariants.{Little}
@@ -25,9 +25,8 @@ use Rattle.ply_header.specs.declared.layout.Role.TheVariants.{Vertices, Faces}
 use Rattle.ply_header.specs.declared.layout.Layout.{Layout}
 use Rattle.ply_reader.specs.declared.values.Values.{Values}
 use Rattle.ply_reader.specs.declared.values.Record.{Record}
-use Rattle.mesh_reading.specs.Results.{◌>>=◌}
-use Rattle.mesh_reading.specs.Faults.{most_mesh_bytes}
-use Rattle.mesh_reading.specs.Faces.{name_of, triangle_of}
+use Rattle.mesh_items.specs.Results.{◌>>=◌}
+use Rattle.mesh_items.specs.Faces.{name_of, triangle_of}
 use Rattle.ply_reader.specs.Body.{Rest, passed, number_of, number_in, no_values, moved_along, with_coordinate, count_in, list_count, index_at, triangle_at, indices_in, corners_in, property_in, properties_in, elements_passed, passed_if, led_to, vertex_in, face_of, face_in, record_in, item_in}
 use Rattle.mesh_round_trip.proofs.Ink.{grid_small, grid_low}
 
@@ -36,11 +35,11 @@ abbrev pub rest_at : ℕ → List ℕ → Rest
 rest_at at bytes = record { at = at; bytes = bytes }
 
 -- bytes that are there are passed
-passed_front : (n at : ℕ) (front tail : List ℕ) → length front ≡ n → at + n ≤ most_mesh_bytes → passed n (rest_at at (front ++ tail)) ≡ Ok (rest_at (at + n) tail)
+passed_front : (n at : ℕ) (front tail : List ℕ) → length front ≡ n → at + n ≤ MOST_MESH_BYTES → passed n (rest_at at (front ++ tail)) ≡ Ok (rest_at (at + n) tail)
 unfolding passed
 passed_front n at front tail long within =
     let all : length (front ++ tail) ≡ n + length tail = length-append front tail ∙ ap (λ k. k + length tail) long in
-    let inside : nat_lt most_mesh_bytes (at + min n (length (front ++ tail))) ≡ false = le-ltb most_mesh_bytes (at + min n (length (front ++ tail))) (omega arith) in
+    let inside : nat_lt MOST_MESH_BYTES (at + min n (length (front ++ tail))) ≡ false = le-ltb MOST_MESH_BYTES (at + min n (length (front ++ tail))) (omega arith) in
     let there : nat_lt (length (front ++ tail)) n ≡ false = le-ltb (length (front ++ tail)) n (omega arith) in
     let left : drop n (front ++ tail) ≡ tail = drop_at front tail n long in
     rw (inside, there, left)
@@ -71,7 +70,7 @@ length-short : (x : ℤ) → length (short x) ≡ 2
 unfolding short
 length-short x = refl
 
-number_passed : (x : ℤ) (at : ℕ) (tail : List ℕ) → on_grid x ≡ true → at + 2 ≤ most_mesh_bytes → number_in Little I16 (rest_at at (short x ++ tail)) ≡ Ok (x, rest_at (at + 2) tail)
+number_passed : (x : ℤ) (at : ℕ) (tail : List ℕ) → on_grid x ≡ true → at + 2 ≤ MOST_MESH_BYTES → number_in Little I16 (rest_at at (short x ++ tail)) ≡ Ok (x, rest_at (at + 2) tail)
 number_passed x at tail grid within =
     ap (λ (p : Result Rest MeshFault). p >>= λ behind. Ok (number_of Little I16 (short x ++ tail), behind)) (passed_front 2 at (short x) tail (length-short x) within)
     ∙ ap (λ z. Ok (z, rest_at (at + 2) tail)) (short_is x tail grid)
@@ -80,7 +79,7 @@ number_passed x at tail grid within =
 abbrev little : ℕ → ℕ → ℕ → Record
 little place number vertices = record { order = Little; at = place; number = number; vertices = vertices }
 
-coordinate_read : (place number vertices : ℕ) (axis : Axis) (x : ℤ) (v : Values) (at : ℕ) (tail : List ℕ) → on_grid x ≡ true → at + 2 ≤ most_mesh_bytes →
+coordinate_read : (place number vertices : ℕ) (axis : Axis) (x : ℤ) (v : Values) (at : ℕ) (tail : List ℕ) → on_grid x ≡ true → at + 2 ≤ MOST_MESH_BYTES →
     property_in (little place number vertices) (Coordinate axis I16) v (rest_at at (short x ++ tail))
     ≡ Ok (record v { point = moved_along axis x v.point }, rest_at (at + 2) tail)
 unfolding property_in
@@ -116,7 +115,7 @@ written_layout v f = record {
 abbrev pub with_point : Point → Values
 with_point p = record no_values { point = p }
 
-point_read : (place number vertices at : ℕ) (p : Point) (tail : List ℕ) → IsOnGrid p → at + 6 ≤ most_mesh_bytes →
+point_read : (place number vertices at : ℕ) (p : Point) (tail : List ℕ) → IsOnGrid p → at + 6 ≤ MOST_MESH_BYTES →
     properties_in (little place number vertices) along_axes no_values (rest_at at (short p.x ++ (short p.y ++ (short p.z ++ tail)))) ≡ Ok (with_point p, rest_at (at + 2 + 2 + 2) tail)
 point_read place number vertices at p tail grid within =
     let rec : Record = little place number vertices in
@@ -136,7 +135,7 @@ point_read place number vertices at p tail grid within =
 vertex_parts : (p : Point) (tail : List ℕ) → ply_vertex p ++ tail ≡ short p.x ++ (short p.y ++ (short p.z ++ tail))
 vertex_parts p tail = append_assoc (short p.x) (short p.y ++ short p.z) tail ∙ ap (λ (t : List ℕ). short p.x ++ t) (append_assoc (short p.y) (short p.z) tail)
 
-vertex_read : (v f number at : ℕ) (p : Point) (tail : List ℕ) → IsOnGrid p → at + 6 ≤ most_mesh_bytes →
+vertex_read : (v f number at : ℕ) (p : Point) (tail : List ℕ) → IsOnGrid p → at + 6 ≤ MOST_MESH_BYTES →
     vertex_in (written_layout v f) number (rest_at at (ply_vertex p ++ tail)) ≡ Ok (item.Vertex p, rest_at (at + 2 + 2 + 2) tail)
 unfolding vertex_in
 vertex_read v f number at p tail grid within =
@@ -148,7 +147,7 @@ length-int : (a : ℕ) → length (int a) ≡ 4
 unfolding int
 length-int a = refl
 
-index_read : (place number vertices a : ℕ) (tail : List ℕ) → a < vertices → vertices ≤ most_items → index_at (little place number vertices) I32 (int a ++ tail) ≡ Some a
+index_read : (place number vertices a : ℕ) (tail : List ℕ) → a < vertices → vertices ≤ MOST_ITEMS → index_at (little place number vertices) I32 (int a ++ tail) ≡ Some a
 unfolding int
 index_read place number vertices a tail below few =
     let back : little_number 4 (int a ++ tail) ≡ a = little_number-reads_back 4 a tail (omega arith) in
@@ -158,7 +157,7 @@ triangle_proper : (at face : ℕ) (t : Tri) → IsProper t → triangle_of at fa
 unfolding triangle_of
 triangle_proper at face t proper = rw (ne_eqb t.a t.b proper.0, ne_eqb t.b t.c proper.1, ne_eqb t.c t.a proper.2)
 
-triangle_read : (place number vertices : ℕ) (t : Tri) (tail : List ℕ) → IsProper t → IsBelow vertices t → vertices ≤ most_items →
+triangle_read : (place number vertices : ℕ) (t : Tri) (tail : List ℕ) → IsProper t → IsBelow vertices t → vertices ≤ MOST_ITEMS →
     triangle_at (little place number vertices) I32 (int t.a ++ (int t.b ++ (int t.c ++ tail))) ≡ Ok t
 triangle_read place number vertices t tail proper below few =
     let rec : Record = little place number vertices in
@@ -184,7 +183,7 @@ length-indices : (t : Tri) → length (int t.a ++ (int t.b ++ int t.c)) ≡ 12
 length-indices t =
     omega (arith, length-append (int t.a) (int t.b ++ int t.c), length-append (int t.b) (int t.c), length-int t.a, length-int t.b, length-int t.c)
 
-indices_read : (place number vertices at : ℕ) (t : Tri) (tail : List ℕ) → IsProper t → IsBelow vertices t → vertices ≤ most_items → at + 12 ≤ most_mesh_bytes →
+indices_read : (place number vertices at : ℕ) (t : Tri) (tail : List ℕ) → IsProper t → IsBelow vertices t → vertices ≤ MOST_ITEMS → at + 12 ≤ MOST_MESH_BYTES →
     indices_in (little place number vertices) I32 (rest_at at ((int t.a ++ (int t.b ++ int t.c)) ++ tail)) ≡ Ok (t, rest_at (at + 12) tail)
 unfolding indices_in
 indices_read place number vertices at t tail proper below few within =
@@ -195,15 +194,15 @@ indices_read place number vertices at t tail proper below few within =
     ∙ ap (λ (o : Result Tri MeshFault). o >>= λ t. Ok (t, rest_at (at + 12) tail))
     (ap (triangle_at rec I32) (indices_parts t tail) ∙ triangle_read place number vertices t tail proper below few)
 
-three_passed : (at : ℕ) (more : List ℕ) → at + 1 ≤ most_mesh_bytes → number_in Little U8 (rest_at at (3 ∷ more)) ≡ Ok (pos 3, rest_at (at + 1) more)
+three_passed : (at : ℕ) (more : List ℕ) → at + 1 ≤ MOST_MESH_BYTES → number_in Little U8 (rest_at at (3 ∷ more)) ≡ Ok (pos 3, rest_at (at + 1) more)
 three_passed at more within =
     ap (λ (p : Result Rest MeshFault). p >>= λ behind. Ok (number_of Little U8 (3 ∷ more), behind)) (passed_front 1 at (3 ∷ []) more refl within)
 
-count_read : (place number vertices at : ℕ) (more : List ℕ) → at + 1 ≤ most_mesh_bytes → count_in (little place number vertices) U8 (rest_at at (3 ∷ more)) ≡ Ok (3, rest_at (at + 1) more)
+count_read : (place number vertices at : ℕ) (more : List ℕ) → at + 1 ≤ MOST_MESH_BYTES → count_in (little place number vertices) U8 (rest_at at (3 ∷ more)) ≡ Ok (3, rest_at (at + 1) more)
 count_read place number vertices at more within =
     ap (λ (c : Result (ℤ × Rest) MeshFault). c >>= λ c. list_count (little place number vertices) c.0 >>= λ n. Ok (n, c.1)) (three_passed at more within)
 
-corners_read : (place number vertices at : ℕ) (t : Tri) (tail : List ℕ) → IsProper t → IsBelow vertices t → vertices ≤ most_items → at + 13 ≤ most_mesh_bytes →
+corners_read : (place number vertices at : ℕ) (t : Tri) (tail : List ℕ) → IsProper t → IsBelow vertices t → vertices ≤ MOST_ITEMS → at + 13 ≤ MOST_MESH_BYTES →
     corners_in (little place number vertices) U8 I32 (rest_at at (ply_face t ++ tail)) ≡ Ok (t, rest_at (at + 1 + 12) tail)
 unfolding corners_in
 corners_read place number vertices at t tail proper below few within =
@@ -212,7 +211,7 @@ corners_read place number vertices at t tail proper below few within =
     (count_read place number vertices at ((int t.a ++ (int t.b ++ int t.c)) ++ tail) (omega arith))
     ∙ indices_read place number vertices (at + 1) t tail proper below few (omega arith)
 
-face_read : (v f number at : ℕ) (t : Tri) (tail : List ℕ) → IsProper t → IsBelow v t → v ≤ most_items → at + 13 ≤ most_mesh_bytes →
+face_read : (v f number at : ℕ) (t : Tri) (tail : List ℕ) → IsProper t → IsBelow v t → v ≤ MOST_ITEMS → at + 13 ≤ MOST_MESH_BYTES →
     face_in (written_layout v f) number (rest_at at (ply_face t ++ tail)) ≡ Ok (item.Face t, rest_at (at + 1 + 12) tail)
 unfolding face_in property_in
 face_read v f number at t tail proper below few within =
@@ -239,13 +238,13 @@ unfolding item_in
 item_straight v f done r = ap (λ (o : Result Rest MeshFault). o >>= record_in (written_layout v f) done) (led_straight v f done r)
 
 -- the vertex behind so many, and the face behind so many vertices and faces
-pub vertex_item : (v f done at : ℕ) (p : Point) (tail : List ℕ) → done < v → IsOnGrid p → at + 13 ≤ most_mesh_bytes →
+pub vertex_item : (v f done at : ℕ) (p : Point) (tail : List ℕ) → done < v → IsOnGrid p → at + 13 ≤ MOST_MESH_BYTES →
     item_in (written_layout v f) done (rest_at at (ply_vertex p ++ tail)) ≡ Ok (item.Vertex p, rest_at (at + 2 + 2 + 2) tail)
 vertex_item v f done at p tail below grid within =
     item_straight v f done (rest_at at (ply_vertex p ++ tail))
     ∙ rw (lt-ltb done v below) (vertex_read v f done at p tail grid (omega arith))
 
-pub face_item : (v f done at : ℕ) (t : Tri) (tail : List ℕ) → v ≤ done → IsProper t → IsBelow v t → v ≤ most_items → at + 13 ≤ most_mesh_bytes →
+pub face_item : (v f done at : ℕ) (t : Tri) (tail : List ℕ) → v ≤ done → IsProper t → IsBelow v t → v ≤ MOST_ITEMS → at + 13 ≤ MOST_MESH_BYTES →
     item_in (written_layout v f) done (rest_at at (ply_face t ++ tail)) ≡ Ok (item.Face t, rest_at (at + 1 + 12) tail)
 face_item v f done at t tail behind proper below few within =
     item_straight v f done (rest_at at (ply_face t ++ tail))

@@ -2,15 +2,15 @@
 use Rattle.std.proofs.Common.{◌≡◌, ℕ, List, [], ◌∷◌, ◌++◌, length, map, Ok, refl, ap}
 use Rattle.std.specs.List.{AllByRecursion}
 use Rattle.std.proofs.lemmas.List.Elements.{recursion_from_All}
-use Rattle.mesh_data.specs.declared.geometry.Point.{Point}
+use Rattle.oemm_octree.specs.declared.points.Point.{Point}
 use Rattle.mesh_data.specs.declared.geometry.Tri.{Tri}
-use Rattle.mesh_data.specs.declared.items.Item.{Item}
-use Rattle.mesh_data.specs.declared.items.Item.TheVariants.{Vertex, Face}
+use Rattle.mesh_items.specs.declared.items.Item.{Item}
+use Rattle.mesh_items.specs.declared.items.Item.TheVariants.{Vertex, Face}
 use Rattle.mesh_data.specs.declared.geometry.Soup.{Soup}
-use Rattle.mesh_data.specs.Reading.{Reading, with_item, soup, soup_of_items}
+use Rattle.mesh_items.specs.Reading.{Reading, with_item, soup, soup_of_items}
 use Rattle.mesh_data.specs.Triangles.{IsProper, IsBelow}
 use Rattle.mesh_round_trip.specs.Whole.{IsWritable}
-use Rattle.mesh_reading.specs.Progress.{reading_of}
+use Rattle.mesh_items.specs.Progress.{reading_of}
 
 -- a face of a mesh with so many vertices
 abbrev pub IsFace : ℕ → Tri → Type 0

@@ -4,19 +4,19 @@ use Rattle.std.specs.List.{AllByRecursion, list_all, slice_get}
 use Rattle.std.specs.Fmt.{decimal, signed_decimal}
 use Rattle.std.proofs.lemmas.List.{drop_all}
 use Rattle.std.proofs.lemmas.Bool.Decides.{nat_tests}
-use Rattle.mesh_data.specs.declared.geometry.Point.{Point}
+use Rattle.oemm_limits.specs.declared.TheConstants.{MOST_ITEMS}
+use Rattle.oemm_octree.specs.declared.points.Point.{Point}
 use Rattle.mesh_data.specs.declared.geometry.Tri.{Tri}
-use Rattle.mesh_data.specs.declared.items.What.{What}
-use Rattle.mesh_data.specs.declared.items.What.TheVariants.{Vertices, Faces}
-use Rattle.mesh_data.specs.declared.items.MeshFault.{MeshFault}
-use Rattle.mesh_data.specs.Octree.{on_grid, IsOnGrid}
-use Rattle.mesh_data.specs.Reading.{most_items}
+use Rattle.oemm_limits.specs.declared.what.What.{What}
+use Rattle.oemm_limits.specs.declared.what.What.TheVariants.{Vertices, Faces}
+use Rattle.mesh_items.specs.declared.items.MeshFault.{MeshFault}
+use Rattle.oemm_octree.specs.Octree.{on_grid, IsOnGrid}
 use Rattle.mesh_data.specs.Triangles.{IsProper, IsBelow}
 use Rattle.oemm_lines.specs.declared.parts.Line.{Line}
-use Rattle.oemm_lines.specs.Numbers.{whole_of, integer_of}
-use Rattle.oemm_lines.proofs.NumberLaws.{whole_of-decimal, integer_of-decimal}
+use Rattle.oemm_lines.specs.Numbers.{unsigned_of, integer_of}
+use Rattle.oemm_lines.proofs.NumberLaws.{unsigned_of-decimal, integer_of-decimal}
 use Rattle.off_reader.specs.Numbers.{signed_of, coordinate_in, is_point, is_zero, before_point, behind_point}
-use Rattle.mesh_reading.specs.Faces.{triangle_of}
+use Rattle.mesh_items.specs.Faces.{triangle_of}
 use Rattle.oemm_lines.specs.Stream.{texts_of}
 use Rattle.off_reader.specs.Grammar.{word_as, limited, count_of, counts_of, coordinate_of, vertex_of, corners_of, index_of, face_of}
 use Rattle.mesh_round_trip.proofs.Ink.{IsInk, IsInked, decimal_inked, grid_small, coordinate_inked, signed_no_point}
@@ -67,18 +67,18 @@ vertex_of-written vertex l p says grid =
     let z = word_as-at (coordinate_of l.at vertex) 2 l words (signed_decimal p.z) p.z says refl (coordinate_of-found l.at vertex (signed_decimal p.z) p.z (coordinate_in-written p.z grid.2) grid.2) in
     rw (x, y, z)
 
-limited-within : (at : ℕ) (what : What) (n : ℕ) → n ≤ most_items → limited at what n ≡ Ok n
+limited-within : (at : ℕ) (what : What) (n : ℕ) → n ≤ MOST_ITEMS → limited at what n ≡ Ok n
 limited-within at what n few = grind (arith, nat_tests)
 
-count_of-found : (at : ℕ) (what : What) (word : List ℕ) (n : ℕ) → whole_of word ≡ Some n → n ≤ most_items → count_of at what word ≡ Ok n
+count_of-found : (at : ℕ) (what : What) (word : List ℕ) (n : ℕ) → unsigned_of word ≡ Some n → n ≤ MOST_ITEMS → count_of at what word ≡ Ok n
 unfolding count_of
 count_of-found at what word n found few = rw found (limited-within at what n few)
 
-count_of-written : (at : ℕ) (what : What) (n : ℕ) → n ≤ most_items → count_of at what (decimal n) ≡ Ok n
-count_of-written at what n few = count_of-found at what (decimal n) n (whole_of-decimal n (omega arith)) few
+count_of-written : (at : ℕ) (what : What) (n : ℕ) → n ≤ MOST_ITEMS → count_of at what (decimal n) ≡ Ok n
+count_of-written at what n few = count_of-found at what (decimal n) n (unsigned_of-decimal n (omega arith)) few
 
 -- the line of the counts
-pub counts_of-written : (l : Line) (v f : ℕ) (words : List (List ℕ)) → texts_of l ≡ decimal v ∷ decimal f ∷ words → v ≤ most_items → f ≤ most_items → counts_of 0 l ≡ Ok (v, f)
+pub counts_of-written : (l : Line) (v f : ℕ) (words : List (List ℕ)) → texts_of l ≡ decimal v ∷ decimal f ∷ words → v ≤ MOST_ITEMS → f ≤ MOST_ITEMS → counts_of 0 l ≡ Ok (v, f)
 unfolding counts_of
 counts_of-written l v f words says few fewer =
     let all : List (List ℕ) = decimal v ∷ decimal f ∷ words in
@@ -87,14 +87,14 @@ counts_of-written l v f words says few fewer =
     rw (vertices, faces)
 
 corners_of-three : (at face : ℕ) → corners_of at face (codes "3") ≡ Ok 3
-unfolding corners_of whole_of
+unfolding corners_of unsigned_of
 corners_of-three at face = refl
 
 index_of-found : (at vertices : ℕ) (word : List ℕ) (n : ℕ) → signed_of word ≡ Some (pos n) → n < vertices → index_of at vertices word ≡ Ok (Some n)
 unfolding index_of
 index_of-found at vertices word n found below = rw (found, lt-ltb n vertices below)
 
-index_of-written : (at vertices n : ℕ) → vertices ≤ most_items → n < vertices → index_of at vertices (decimal n) ≡ Ok (Some n)
+index_of-written : (at vertices n : ℕ) → vertices ≤ MOST_ITEMS → n < vertices → index_of at vertices (decimal n) ≡ Ok (Some n)
 index_of-written at vertices n few below =
     let inked : IsInked (decimal n) = decimal_inked n (omega arith) in
     index_of-found at vertices (decimal n) n
@@ -105,7 +105,7 @@ unfolding triangle_of
 triangle_of-proper at face t proper = rw (ne_eqb t.a t.b proper.0, ne_eqb t.b t.c proper.1, ne_eqb t.c t.a proper.2)
 
 -- the line of a face
-pub face_of-written : (vertices face : ℕ) (l : Line) (t : Tri) → texts_of l ≡ codes "3" ∷ decimal t.a ∷ decimal t.b ∷ decimal t.c ∷ [] → vertices ≤ most_items → IsProper t → IsBelow vertices t → face_of vertices face l ≡ Ok t
+pub face_of-written : (vertices face : ℕ) (l : Line) (t : Tri) → texts_of l ≡ codes "3" ∷ decimal t.a ∷ decimal t.b ∷ decimal t.c ∷ [] → vertices ≤ MOST_ITEMS → IsProper t → IsBelow vertices t → face_of vertices face l ≡ Ok t
 unfolding face_of
 face_of-written vertices face l t says few proper below =
     let words : List (List ℕ) = codes "3" ∷ decimal t.a ∷ decimal t.b ∷ decimal t.c ∷ [] in

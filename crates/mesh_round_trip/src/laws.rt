@@ -1,17 +1,17 @@
 //! A file that is written is read as itself.
 
 ghost use Rattle.std.specs.Prelude.{◌≡◌, List, Ok};
-ghost use Rattle.mesh_data.specs.declared.geometry.Point.{Point};
+ghost use Rattle.oemm_octree.specs.declared.points.Point.{Point};
 ghost use Rattle.mesh_data.specs.declared.geometry.Tri.{Tri};
 ghost use Rattle.mesh_data.specs.Mesh.{Mesh, points_of};
-ghost use Rattle.mesh_data.specs.Reading.{soup};
+ghost use Rattle.mesh_items.specs.Reading.{soup};
 ghost use Rattle.mesh_out.specs.declared.form.Form.TheVariants.{Off, Ply};
 ghost use Rattle.mesh_out.specs.Form.{form_text};
 ghost use Rattle.mesh_out.specs.MeshBytes.{faces_of, mesh_bytes};
 ghost use Rattle.off_reader.specs.Grammar.{off_reading};
 ghost use Rattle.ply_reader.specs.Mesh.{ply_reading};
 ghost use Rattle.mesh_round_trip.specs.Whole.{IsWritable, IsWritableMesh};
-ghost use Rattle.mesh_reading.specs.Progress.{reading_of};
+ghost use Rattle.mesh_items.specs.Progress.{reading_of};
 
 /// A mesh that is written as OFF is read as itself: the counts, then each point, then each face, and no fault; so its
 /// points and faces are those that were written.

@@ -9,13 +9,13 @@ ghost use Rattle.std.specs.Vec.Iter.{into_iter_items};
 ghost use Rattle.std.specs.declared.io.ErrorKind.TheVariants.{OutOfMemory};
 ghost use Rattle.oemm_run.specs.End.{status_of};
 ghost use Rattle.oemm_run.specs.Gives.{Gives};
-ghost use Rattle.oemm_run.specs.Words.{order_of};
+ghost use Rattle.oemm_words.specs.Words.{order_of};
 ghost use Rattle.oemm.specs.Paths.{path_of};
 ghost use Rattle.oemm.specs.Program.{untouched, EndsOn};
 
-use mesh_data::CommandWords;
 use oemm_io::{FileSink, FileSource, StdSink};
-use oemm_run::{End, Io, Roles, Seen, WordsFault, end_text, roles, run, status};
+use oemm_run::{Commands, End, Io, end_text, run, status};
+use oemm_words::{CommandWords, Roles, WordsFault, roles};
 use std::alloc::{AllocError, Global};
 use std::env::Args;
 use std::process::ExitCode;
@@ -95,7 +95,8 @@ fn perform<R: Files + Print + AllocGlobal + Clone + Drop>(
     rt: &R,
     words: &CommandWords,
 ) -> Result<(SystemIo<R>, End), WordsFault>
-    ensures gives { IfOk result (λ done. Gives words.now untouched (⟦<SystemIo<R> as Seen>⟧.outside done.0) done.1) }
+    ensures gives { IfOk result
+        (λ done. Gives words.now untouched (⟦<SystemIo<R> as Commands>⟧.outside done.0) done.1) }
     ensures usage { result ≡ Err WordsFault.Usage → order_of words.now ≡ None }
 {
     let roles = roles(words)?;
@@ -112,7 +113,7 @@ fn io_of<R: Files + Print + AllocGlobal + Clone + Drop>(
     ensures mesh { IfOk result (λ io. io.mesh.path ≡ path_of words.now roles.now.mesh) }
     ensures script { IfOk result (λ io. io.script.path ≡ path_of words.now roles.now.script) }
     ensures out { IfOk result (λ io. io.out.path ≡ path_of words.now roles.now.out) }
-    ensures untouched { IfOk result (λ io. ⟦<SystemIo<R> as Seen>⟧.outside io ≡ untouched) }
+    ensures untouched { IfOk result (λ io. ⟦<SystemIo<R> as Commands>⟧.outside io ≡ untouched) }
 {
     Ok(Io {
         mesh: FileSource::new(rt.clone()?, path_at(rt, words, roles.mesh)?),

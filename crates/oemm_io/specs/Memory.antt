@@ -14,7 +14,7 @@ pub record MemoryInput : Type 0 where
 
 -- a sink: the bytes that it holds, the room that is left, as for a source, and whether it is finished
 pub record MemoryOutput : Type 0 where
-  pub held : List ℕ
+  pub written : List ℕ
   pub room : ℕ
   pub failing : List ℕ
   pub piece : ℕ
@@ -31,7 +31,7 @@ new_input bytes failing piece =
 abbrev pub new_output : ℕ → List ℕ → ℕ → MemoryOutput
 new_output room failing piece =
     record {
-      held = [];
+      written = [];
       room = room;
       failing = failing;
       piece = piece;
@@ -70,7 +70,7 @@ put_count sink offered = min offered (min sink.piece sink.room)
 abbrev pub after_put : MemoryOutput → List ℕ → MemoryOutput
 after_put sink bytes =
     record sink {
-      held = sink.held ++ bytes;
+      written = sink.written ++ bytes;
       room = sink.room - length bytes;
       calls = next_count sink.calls;
       finished = sink.finished && length bytes == 0;

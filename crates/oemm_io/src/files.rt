@@ -118,7 +118,7 @@ impl<R: Files> FileSink<R> {
 impl<R: Files> Sink for FileSink<R> {
     ghost use Rattle.std.specs.Prelude.{None};
 
-    ghost held = { λ _. None };
+    ghost written = { λ _. None };
 
     ghost faults = { λ sink. sink.state.faults };
 
@@ -147,6 +147,14 @@ impl<R: Files> Sink for FileSink<R> {
     }
 }
 
+/// The file, made or emptied where it isn't open yet.
+fn created<R: Files>(rt: &R, path: &str, file: &mut Option<R::File>) -> io::Result<R::File> {
+    match file.take() {
+        Some(opened) => Ok(opened),
+        None => fs::create(rt, path),
+    }
+}
+
 fn write_some<R: Files>(
     rt: &R,
     path: &str,
@@ -155,20 +163,14 @@ fn write_some<R: Files>(
 ) -> io::Result<usize>
     ensures { IfOk result (λ n. n ≤ length bytes.now) }
 {
-    let mut opened = match file.take() {
-        Some(opened) => opened,
-        None => fs::create(rt, path)?,
-    };
+    let mut opened = created(rt, path, file)?;
     let count = opened.write(bytes);
     *file = Some(opened);
     count
 }
 
 fn flush<R: Files>(rt: &R, path: &str, file: &mut Option<R::File>) -> io::Result<()> {
-    let mut opened = match file.take() {
-        Some(opened) => opened,
-        None => fs::create(rt, path)?,
-    };
+    let mut opened = created(rt, path, file)?;
     let done = opened.flush();
     *file = Some(opened);
     done
@@ -204,7 +206,7 @@ impl<R> StdSink<R> {
 impl<R: Print> Sink for StdSink<R> {
     ghost use Rattle.std.specs.Prelude.{None};
 
-    ghost held = { λ _. None };
+    ghost written = { λ _. None };
 
     ghost faults = { λ sink. sink.faults };
 

@@ -4,6 +4,9 @@ ghost use Rattle.std.specs.Prelude.{◌≡◌, ℕ, ◌≤◌, ◌<◌, ◌==◌
 ghost use Rattle.fault_counts.specs.Counts.{HasCause};
 ghost use Rattle.fault_counts.specs.Told.{Told, Takes, IsAtEnd, Puts};
 
+/// How many bytes are asked of a source, or put into a sink, at a time.
+pub const BLOCK: usize = 1 << 16;
+
 /// A call of a source or a sink failed.
 #[derive(Clone, Copy, Debug, PartialEq, Eq)]
 pub struct Failed;
@@ -31,7 +34,7 @@ pub trait Source {
 /// Bytes that are put behind one another, a piece at a call.
 pub trait Sink {
     /// The bytes that it holds, or none where the sink doesn't tell them.
-    ghost held: { Self → Told };
+    ghost written: { Self → Told };
 
     /// How often it has failed.
     ghost faults: { Self → ℕ };
@@ -46,17 +49,17 @@ pub trait Sink {
     fn put(&mut self, bytes: &[u8]) -> Result<usize, Failed>
         ensures within { IfOk result (λ n. n ≤ length bytes.now) }
         ensures some { IfOk result (λ n. 0 < length bytes.now → 0 < n) }
-        ensures held { IfOk result (λ n. Puts (held self.old) (held self.new) (take n bytes.now)) }
+        ensures written { IfOk result (λ n. Puts (written self.old) (written self.new) (take n bytes.now)) }
         ensures open { IfOk result (λ n. finished self.new ≡ (finished self.old && n == 0)) }
-        ensures err { OnErr result ((held self.new ≡ held self.old) × (finished self.new ≡ finished self.old)) }
+        ensures err { OnErr result ((written self.new ≡ written self.old) × (finished self.new ≡ finished self.old)) }
         ensures cause { HasCause (faults self.old) (faults self.new) result };
 
-    /// Takes no byte, and leaves what is held, whatever it answers.
+    /// Takes no byte, and leaves what was written, whatever it answers.
     ///
     /// # Errors
     /// `Failed` where the sink fails. It is then as finished as it was.
     fn finish(&mut self) -> Result<(), Failed>
-        ensures held { held self.new ≡ held self.old }
+        ensures written { written self.new ≡ written self.old }
         ensures finished { OnOk result (finished self.new ≡ true) }
         ensures err { OnErr result (finished self.new ≡ finished self.old) }
         ensures cause { HasCause (faults self.old) (faults self.new) result };

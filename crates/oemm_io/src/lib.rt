@@ -10,7 +10,7 @@ mod tally;
 mod whole;
 
 pub use files::{FileSink, FileSource, StdSink};
-pub use flows::{Failed, Sink, Source};
+pub use flows::{BLOCK, Failed, Sink, Source};
 pub use head::Headed;
 pub use memory::{MemSink, MemSource};
 pub use whole::{TakeFault, put_all, take_all};

@@ -108,7 +108,7 @@ impl Model for MemSink {
     ghost Value = { MemoryOutput };
 
     ghost view = { λ a. record {
-      held = a.bytes.items;
+      written = a.bytes.items;
       room = a.room;
       failing = a.failing.items;
       piece = a.piece;
@@ -151,7 +151,7 @@ impl MemSink {
 
     /// What it holds.
     pub fn bytes(&self) -> &[u8]
-        ensures { result.now ≡ self.now.held }
+        ensures { result.now ≡ self.now.written }
     {
         self.bytes.as_slice()
     }
@@ -160,7 +160,7 @@ impl MemSink {
 impl Sink for MemSink {
     ghost use Rattle.std.specs.Prelude.{Some};
 
-    ghost held = { λ sink. Some sink.held };
+    ghost written = { λ sink. Some sink.written };
 
     ghost faults = { λ sink. sink.faults };
 
@@ -169,9 +169,9 @@ impl Sink for MemSink {
     fn put(&mut self, bytes: &[u8]) -> Result<usize, Failed>
         ensures within { IfOk result (λ n. n ≤ length bytes.now) }
         ensures some { IfOk result (λ n. 0 < length bytes.now → 0 < n) }
-        ensures held { IfOk result (λ n. Puts (Some self.old.held) (Some self.new.held) (take n bytes.now)) }
+        ensures written { IfOk result (λ n. Puts (Some self.old.written) (Some self.new.written) (take n bytes.now)) }
         ensures open { IfOk result (λ n. self.new.finished ≡ (self.old.finished && n == 0)) }
-        ensures err { OnErr result ((self.new.held ≡ self.old.held) × (self.new.finished ≡ self.old.finished)) }
+        ensures err { OnErr result ((self.new.written ≡ self.old.written) × (self.new.finished ≡ self.old.finished)) }
         ensures cause { HasCause self.old.faults self.new.faults result }
         ensures fails { is_err result ≡ is_put_failing self.old }
         ensures count { IfOk result (λ n. n ≡ put_count self.old (length bytes.now)) }
@@ -193,7 +193,7 @@ impl Sink for MemSink {
     }
 
     fn finish(&mut self) -> Result<(), Failed>
-        ensures held { self.new.held ≡ self.old.held }
+        ensures written { self.new.written ≡ self.old.written }
         ensures finished { OnOk result (self.new.finished ≡ true) }
         ensures err { OnErr result (self.new.finished ≡ self.old.finished) }
         ensures cause { HasCause self.old.faults self.new.faults result }

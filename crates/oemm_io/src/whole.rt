@@ -2,14 +2,11 @@
 
 ghost use Rattle.std.specs.Prelude.{◌≡◌, ◌≤◌, true, IfOk, OnOk, OnErr, IsErrOf, vec_len};
 ghost use Rattle.fault_counts.specs.Counts.{HasCause, TellsFailure};
-ghost use Rattle.fault_counts.specs.Told.{Takes, TakesSome, IsAtEnd, Puts, PutsFront};
+ghost use Rattle.fault_counts.specs.Told.{Takes, TakesSome, IsAtEnd, Puts, PutsPrefix};
 ghost use Rattle.oemm_io.specs.Whole.{IsLongerThan, StaysOpen};
 
-use crate::flows::{Failed, Sink, Source};
+use crate::flows::{BLOCK, Failed, Sink, Source};
 use std::alloc::{AllocError, Global};
-
-/// How many bytes a take asks for.
-const BLOCK: usize = 65536;
 
 /// What can keep a source from being taken whole.
 #[derive(Clone, Copy, Debug, PartialEq, Eq)]
@@ -98,10 +95,10 @@ fn zeros(alloc: Global, count: usize) -> Result<Vec<u8>, AllocError>
 /// `Failed` where the sink fails. It then has a front of the bytes, and is finished only if it was
 /// before.
 pub fn put_all<O: Sink>(mut sink: O, bytes: &[u8]) -> (O, Result<(), Failed>)
-    ensures ok { OnOk result.1 (Puts (O.held sink) (O.held result.0) bytes.now) }
+    ensures ok { OnOk result.1 (Puts (O.written sink) (O.written result.0) bytes.now) }
     ensures finished { OnOk result.1 (O.finished result.0 ≡ true) }
     ensures open { OnErr result.1 (StaysOpen (O.finished sink) (O.finished result.0)) }
-    ensures front { PutsFront (O.held sink) (O.held result.0) bytes.now }
+    ensures front { PutsPrefix (O.written sink) (O.written result.0) bytes.now }
     ensures cause { HasCause (O.faults sink) (O.faults result.0) result.1 }
 {
     let done = put_pieces(&mut sink, bytes);
@@ -110,10 +107,10 @@ pub fn put_all<O: Sink>(mut sink: O, bytes: &[u8]) -> (O, Result<(), Failed>)
 
 #[tactic(auto, using(fault_counts::proofs::InRow::puts_none, crate::proofs::Told::puts_next))]
 fn put_pieces<O: Sink>(sink: &mut O, bytes: &[u8]) -> Result<(), Failed>
-    ensures ok { OnOk result (Puts (O.held sink.old) (O.held sink.new) bytes.now) }
+    ensures ok { OnOk result (Puts (O.written sink.old) (O.written sink.new) bytes.now) }
     ensures finished { OnOk result (O.finished sink.new ≡ true) }
     ensures open { OnErr result (StaysOpen (O.finished sink.old) (O.finished sink.new)) }
-    ensures front { PutsFront (O.held sink.old) (O.held sink.new) bytes.now }
+    ensures front { PutsPrefix (O.written sink.old) (O.written sink.new) bytes.now }
     ensures cause { HasCause (O.faults sink.old) (O.faults sink.new) result }
 {
     let mut at = 0;

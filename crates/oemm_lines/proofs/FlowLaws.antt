@@ -3,10 +3,11 @@ use Rattle.std.proofs.Common.{◌≡◌, ◌≢◌, ℕ, ◌+◌, ◌<◌, ◌�
 use Rattle.std.specs.List.{All, AllByRecursion}
 use Rattle.std.proofs.lemmas.List.Elements.{recursion_from_All}
 use Rattle.std.proofs.lemmas.Bool.Decides.{nat_tests}
+use Rattle.oemm_limits.specs.declared.TheConstants.{MOST_LINE_BYTES}
 use Rattle.oemm_lines.specs.declared.parts.LineFault.{LineFault}
 use Rattle.oemm_lines.specs.declared.parts.LineFault.TheVariants.{TooLong, Bytes}
 use Rattle.oemm_lines.specs.Lines.{without_return}
-use Rattle.oemm_lines.specs.Stream.{longest, Body, bodies, bodies_with, size_of, text_of, line_fault, behind, fault_alone, nothing_more, led_by, line_of, flow_from, told_lines}
+use Rattle.oemm_lines.specs.Stream.{Body, bodies, bodies_with, size_of, text_of, line_fault, line_then, fault_alone, nothing_more, led_by, line_of, flow_from, told_lines}
 
 bodies-none : bodies [] ≡ []
 unfolding bodies
@@ -70,7 +71,7 @@ unfolding bodies flow_from
 told_lines-none comments budget at number = refl
 
 -- the first line that is no fault
-flow_from-line : (comments : Bool) (budget at number : ℕ) (b : Body) (bs : List Body) → line_fault budget at b ≡ None → flow_from comments budget at number (b ∷ bs) ≡ behind (line_of comments at number (text_of b)) (flow_from comments budget (at + size_of b) (number + 1) bs)
+flow_from-line : (comments : Bool) (budget at number : ℕ) (b : Body) (bs : List Body) → line_fault budget at b ≡ None → flow_from comments budget at number (b ∷ bs) ≡ line_then (line_of comments at number (text_of b)) (flow_from comments budget (at + size_of b) (number + 1) bs)
 unfolding flow_from
 flow_from-line comments budget at number b bs none = ap (λ fault. led_by fault (line_of comments at number (text_of b)) (flow_from comments budget (at + size_of b) (number + 1) bs)) none
 
@@ -87,43 +88,43 @@ size_at_least : (b : Body) → length b.bytes ≤ size_of b
 size_at_least b = size_least b.ended b.bytes
 
 -- a line within its limits
-within_limits : (budget at : ℕ) (b : Body) → length b.bytes ≤ longest → at + size_of b ≤ budget → line_fault budget at b ≡ None
+within_limits : (budget at : ℕ) (b : Body) → length b.bytes ≤ MOST_LINE_BYTES → at + size_of b ≤ budget → line_fault budget at b ≡ None
 within_limits budget at b short within = grind (arith, nat_tests)
 
 -- a line of which a byte lies past the budget
-past_budget : (budget at : ℕ) (b : Body) → budget ≤ at + longest → budget < at + size_of b → line_fault budget at b ≡ Some (Bytes budget)
+past_budget : (budget at : ℕ) (b : Body) → budget ≤ at + MOST_LINE_BYTES → budget < at + size_of b → line_fault budget at b ≡ Some (Bytes budget)
 past_budget budget at b low past = grind (arith, nat_tests)
 
 -- a line whose line feed lies past the budget
-feed_past : (budget at : ℕ) (b : Body) → length b.bytes ≤ longest → budget < at + size_of b → line_fault budget at b ≡ Some (Bytes budget)
+feed_past : (budget at : ℕ) (b : Body) → length b.bytes ≤ MOST_LINE_BYTES → budget < at + size_of b → line_fault budget at b ≡ Some (Bytes budget)
 feed_past budget at b short past = grind (arith, nat_tests)
 
 -- a line that is too long
-too_long_fault : (budget at : ℕ) (b : Body) → longest < length b.bytes → at + longest < budget → line_fault budget at b ≡ Some (TooLong at)
+too_long_fault : (budget at : ℕ) (b : Body) → MOST_LINE_BYTES < length b.bytes → at + MOST_LINE_BYTES < budget → line_fault budget at b ≡ Some (TooLong at)
 too_long_fault budget at b long within = grind (arith, nat_tests)
 
 -- the flow of a line that a line feed ends
-pub told_lines-ended : (comments : Bool) (budget at number : ℕ) (body rest : List ℕ) → AllByRecursion (λ c. c ≢ 10) body → length body ≤ longest → at + (length body + 1) ≤ budget → told_lines comments budget at number (body ++ 10 ∷ rest) ≡ behind (line_of comments at number (without_return body)) (told_lines comments budget (at + (length body + 1)) (number + 1) rest)
+pub told_lines-ended : (comments : Bool) (budget at number : ℕ) (body rest : List ℕ) → AllByRecursion (λ c. c ≢ 10) body → length body ≤ MOST_LINE_BYTES → at + (length body + 1) ≤ budget → told_lines comments budget at number (body ++ 10 ∷ rest) ≡ line_then (line_of comments at number (without_return body)) (told_lines comments budget (at + (length body + 1)) (number + 1) rest)
 told_lines-ended comments budget at number body rest dark short within =
     ap (flow_from comments budget at number) (bodies-ended body rest dark)
     ∙ flow_from-line comments budget at number (record { bytes = body; ended = true }) (bodies rest) (within_limits budget at (record { bytes = body; ended = true }) short within)
 
 -- or whose line feed lies past the budget
-pub told_lines-feed_past : (comments : Bool) (budget at number : ℕ) (body rest : List ℕ) → AllByRecursion (λ c. c ≢ 10) body → length body ≤ longest → budget < at + (length body + 1) → told_lines comments budget at number (body ++ 10 ∷ rest) ≡ fault_alone (Bytes budget)
+pub told_lines-feed_past : (comments : Bool) (budget at number : ℕ) (body rest : List ℕ) → AllByRecursion (λ c. c ≢ 10) body → length body ≤ MOST_LINE_BYTES → budget < at + (length body + 1) → told_lines comments budget at number (body ++ 10 ∷ rest) ≡ fault_alone (Bytes budget)
 told_lines-feed_past comments budget at number body rest dark short past =
     ap (flow_from comments budget at number) (bodies-ended body rest dark)
     ∙ flow_from-fault comments budget at number (record { bytes = body; ended = true }) (bodies rest) (Bytes budget) (feed_past budget at (record { bytes = body; ended = true }) short past)
 
 -- the flow of a last line that no line feed ends
-pub told_lines-last : (comments : Bool) (budget at number : ℕ) (body : List ℕ) → 0 < length body → AllByRecursion (λ c. c ≢ 10) body → length body ≤ longest → at + length body ≤ budget → told_lines comments budget at number body ≡ behind (line_of comments at number body) (told_lines comments budget (at + length body) (number + 1) [])
+pub told_lines-last : (comments : Bool) (budget at number : ℕ) (body : List ℕ) → 0 < length body → AllByRecursion (λ c. c ≢ 10) body → length body ≤ MOST_LINE_BYTES → at + length body ≤ budget → told_lines comments budget at number body ≡ line_then (line_of comments at number body) (told_lines comments budget (at + length body) (number + 1) [])
 told_lines-last comments budget at number [] some dark short within = absurd (omega arith)
 told_lines-last comments budget at number (c ∷ cs) some dark short within =
     ap (flow_from comments budget at number) (bodies-last c cs dark)
     ∙ flow_from-line comments budget at number (record { bytes = c ∷ cs; ended = false }) [] (within_limits budget at (record { bytes = c ∷ cs; ended = false }) short within)
-    ∙ ap (λ bs. behind (line_of comments at number (c ∷ cs)) (flow_from comments budget (at + length (c ∷ cs)) (number + 1) bs)) (sym bodies-none)
+    ∙ ap (λ bs. line_then (line_of comments at number (c ∷ cs)) (flow_from comments budget (at + length (c ∷ cs)) (number + 1) bs)) (sym bodies-none)
 
 -- the flow of a line that goes on behind these bytes, which are too long
-pub told_lines-long : (comments : Bool) (budget at number : ℕ) (front rest : List ℕ) → AllByRecursion (λ c. c ≢ 10) front → longest < length front → at + longest < budget → told_lines comments budget at number (front ++ rest) ≡ fault_alone (TooLong at)
+pub told_lines-long : (comments : Bool) (budget at number : ℕ) (front rest : List ℕ) → AllByRecursion (λ c. c ≢ 10) front → MOST_LINE_BYTES < length front → at + MOST_LINE_BYTES < budget → told_lines comments budget at number (front ++ rest) ≡ fault_alone (TooLong at)
 told_lines-long comments budget at number [] rest dark long within = absurd (omega arith)
 told_lines-long comments budget at number (c ∷ cs) rest dark long within =
     let begun = bodies-begin c cs rest dark in
@@ -131,7 +132,7 @@ told_lines-long comments budget at number (c ∷ cs) rest dark long within =
     ∙ flow_from-fault comments budget at number begun.body begun.rest (TooLong at) (too_long_fault budget at begun.body (omega (arith, begun.long)) within)
 
 -- or which end past the budget
-pub told_lines-past : (comments : Bool) (budget at number : ℕ) (front rest : List ℕ) → AllByRecursion (λ c. c ≢ 10) front → budget ≤ at + longest → budget < at + length front → at ≤ budget → told_lines comments budget at number (front ++ rest) ≡ fault_alone (Bytes budget)
+pub told_lines-past : (comments : Bool) (budget at number : ℕ) (front rest : List ℕ) → AllByRecursion (λ c. c ≢ 10) front → budget ≤ at + MOST_LINE_BYTES → budget < at + length front → at ≤ budget → told_lines comments budget at number (front ++ rest) ≡ fault_alone (Bytes budget)
 told_lines-past comments budget at number [] rest dark low past within = absurd (omega arith)
 told_lines-past comments budget at number (c ∷ cs) rest dark low past within =
     let begun = bodies-begin c cs rest dark in
@@ -143,19 +144,19 @@ some_bytes [] some = absurd (some refl)
 some_bytes (c ∷ cs) some = omega arith
 
 -- the laws of these flows, with `All`
-pub ended : (comments : Bool) (budget at number : ℕ) (body rest : List ℕ) → All (λ c. c ≢ 10) body → length body ≤ longest → at + (length body + 1) ≤ budget → told_lines comments budget at number (body ++ 10 ∷ rest) ≡ behind (line_of comments at number (without_return body)) (told_lines comments budget (at + (length body + 1)) (number + 1) rest)
+pub ended : (comments : Bool) (budget at number : ℕ) (body rest : List ℕ) → All (λ c. c ≢ 10) body → length body ≤ MOST_LINE_BYTES → at + (length body + 1) ≤ budget → told_lines comments budget at number (body ++ 10 ∷ rest) ≡ line_then (line_of comments at number (without_return body)) (told_lines comments budget (at + (length body + 1)) (number + 1) rest)
 ended comments budget at number body rest dark = told_lines-ended comments budget at number body rest (recursion_from_All (λ c. c ≢ 10) body dark)
 
-pub last : (comments : Bool) (budget at number : ℕ) (body : List ℕ) → body ≢ [] → All (λ c. c ≢ 10) body → length body ≤ longest → at + length body ≤ budget → told_lines comments budget at number body ≡ behind (line_of comments at number body) nothing_more
+pub last : (comments : Bool) (budget at number : ℕ) (body : List ℕ) → body ≢ [] → All (λ c. c ≢ 10) body → length body ≤ MOST_LINE_BYTES → at + length body ≤ budget → told_lines comments budget at number body ≡ line_then (line_of comments at number body) nothing_more
 last comments budget at number body some dark short within =
     told_lines-last comments budget at number body (some_bytes body some) (recursion_from_All (λ c. c ≢ 10) body dark) short within
-    ∙ ap (behind (line_of comments at number body)) (told_lines-none comments budget (at + length body) (number + 1))
+    ∙ ap (line_then (line_of comments at number body)) (told_lines-none comments budget (at + length body) (number + 1))
 
-pub too_long : (comments : Bool) (budget at number : ℕ) (front rest : List ℕ) → All (λ c. c ≢ 10) front → longest < length front → at + longest < budget → told_lines comments budget at number (front ++ rest) ≡ fault_alone (TooLong at)
+pub too_long : (comments : Bool) (budget at number : ℕ) (front rest : List ℕ) → All (λ c. c ≢ 10) front → MOST_LINE_BYTES < length front → at + MOST_LINE_BYTES < budget → told_lines comments budget at number (front ++ rest) ≡ fault_alone (TooLong at)
 too_long comments budget at number front rest dark = told_lines-long comments budget at number front rest (recursion_from_All (λ c. c ≢ 10) front dark)
 
-pub past : (comments : Bool) (budget at number : ℕ) (front rest : List ℕ) → All (λ c. c ≢ 10) front → at ≤ budget → budget ≤ at + longest → budget < at + length front → told_lines comments budget at number (front ++ rest) ≡ fault_alone (Bytes budget)
+pub past : (comments : Bool) (budget at number : ℕ) (front rest : List ℕ) → All (λ c. c ≢ 10) front → at ≤ budget → budget ≤ at + MOST_LINE_BYTES → budget < at + length front → told_lines comments budget at number (front ++ rest) ≡ fault_alone (Bytes budget)
 past comments budget at number front rest dark order low over = told_lines-past comments budget at number front rest (recursion_from_All (λ c. c ≢ 10) front dark) low over order
 
-pub end_past : (comments : Bool) (budget at number : ℕ) (body rest : List ℕ) → All (λ c. c ≢ 10) body → length body ≤ longest → budget < at + (length body + 1) → told_lines comments budget at number (body ++ 10 ∷ rest) ≡ fault_alone (Bytes budget)
+pub end_past : (comments : Bool) (budget at number : ℕ) (body rest : List ℕ) → All (λ c. c ≢ 10) body → length body ≤ MOST_LINE_BYTES → budget < at + (length body + 1) → told_lines comments budget at number (body ++ 10 ∷ rest) ≡ fault_alone (Bytes budget)
 end_past comments budget at number body rest dark = told_lines-feed_past comments budget at number body rest (recursion_from_All (λ c. c ≢ 10) body dark)

@@ -5,13 +5,14 @@ use Rattle.std.specs.Result.{result_err}
 use Rattle.std.specs.List.{AllByRecursion}
 use Rattle.std.proofs.lemmas.Bool.Decides.{eqb_tells}
 use Rattle.std.proofs.lemmas.List.{take-append-drop, length-take-le, get_or-take, drop_all}
+use Rattle.oemm_limits.specs.declared.TheConstants.{MOST_LINE_BYTES}
 use Rattle.fault_counts.specs.Told.{Told, Takes, TakesSome, IsAtEnd}
 use Rattle.fault_counts.proofs.InRow.{takes_more}
 use Rattle.oemm_lines.specs.declared.parts.Line.{Line}
 use Rattle.oemm_lines.specs.declared.parts.LineFault.{LineFault}
 use Rattle.oemm_lines.specs.declared.parts.LineFault.TheVariants.{Read, TooLong, Bytes, Memory}
 use Rattle.oemm_lines.specs.Lines.{without_return}
-use Rattle.oemm_lines.specs.Stream.{Flow, behind, fault_alone, nothing_more, told_lines, line_of, Stream, left_with, left_of, end_of, flow_by, flow_of, flow_left, IsLineEnd, GivesLine, StaysPut, GivesNext, GivesRaw, Says}
+use Rattle.oemm_lines.specs.Stream.{Flow, line_then, fault_alone, nothing_more, told_lines, line_of, Stream, left_with, left_of, end_of, flow_by, flow_of, flow_left, IsLineEnd, GivesLine, StaysPut, GivesNext, GivesRaw, Says}
 use Rattle.oemm_lines.specs.Lines.{HasNoFeed}
 use Rattle.oemm_lines.proofs.LineLaws.{no_feed}
 use Rattle.oemm_lines.proofs.WordPlaces.{word_texts, words_within}
@@ -94,7 +95,7 @@ passed_calm old source ahead size calm = cc
 -- the stream once a line feed was found
 feed_given :
     {S : Type 0} (told : S → Told) (old : Stream S) (source : S) (ahead : List ℕ) (n : ℕ) →
-    old.fault ≡ None → left_of told old ≡ left_with ahead (told source) → n ≤ 65536 → n < length ahead → HasNoFeed ahead n →
+    old.fault ≡ None → left_of told old ≡ left_with ahead (told source) → n ≤ MOST_LINE_BYTES → n < length ahead → HasNoFeed ahead n →
     get_or ahead n 0 ≡ 10 → old.at + (n + 1) ≤ old.budget →
     GivesLine told old (line_of old.comments old.at old.number (without_return (take n ahead))) (behind_feed old source ahead (n + 1))
 feed_given told old source ahead n calm left short within none found fits =
@@ -110,7 +111,7 @@ feed_given told old source ahead n calm left short within none found fits =
           ap (λ fault. flow_by fault (told_lines old.comments old.budget old.at old.number (without_return (take n ahead) ++ cut.end ++ rest))) calm
           ∙ ap (told_lines old.comments old.budget old.at old.number) (ap (λ (t : List ℕ). t ++ rest) cut.whole ∙ append_assoc (take n ahead) (10 ∷ []) rest)
           ∙ told_lines-ended old.comments old.budget old.at old.number (take n ahead) rest (front_is_dark ahead n (omega arith) none) (omega arith) (omega arith)
-          ∙ ap (λ m. behind (line_of old.comments old.at old.number (without_return (take n ahead))) (told_lines old.comments old.budget (old.at + (m + 1)) (old.number + 1) rest)) size;
+          ∙ ap (λ m. line_then (line_of old.comments old.at old.number (without_return (take n ahead))) (told_lines old.comments old.budget (old.at + (m + 1)) (old.number + 1) rest)) size;
       place = refl;
       count = refl;
       words = refl;
@@ -125,7 +126,7 @@ feed_given told old source ahead n calm left short within none found fits =
 -- the stream once its last line was found
 last_given :
     {S : Type 0} (told : S → Told) (old : Stream S) (source : S) (ahead : List ℕ) (n : ℕ) →
-    old.fault ≡ None → left_of told old ≡ left_with ahead (told source) → n ≤ 65536 → n ≡ length ahead → HasNoFeed ahead n →
+    old.fault ≡ None → left_of told old ≡ left_with ahead (told source) → n ≤ MOST_LINE_BYTES → n ≡ length ahead → HasNoFeed ahead n →
     IsAtEnd (told source) → 0 < n → old.at + n ≤ old.budget →
     GivesLine told old (line_of old.comments old.at old.number ahead) (behind_feed old source ahead n)
 last_given told old source ahead n calm left short whole none end some fits =
@@ -141,8 +142,8 @@ last_given told old source ahead n calm left short whole none end some fits =
           ap (λ fault. flow_by fault (told_lines old.comments old.budget old.at old.number (ahead ++ [] ++ rest))) calm
           ∙ ap (told_lines old.comments old.budget old.at old.number) (sym (last_split ahead rest gone))
           ∙ told_lines-last old.comments old.budget old.at old.number ahead (omega arith) dark (omega arith) (omega arith)
-          ∙ ap (λ m. behind (line_of old.comments old.at old.number ahead) (told_lines old.comments old.budget (old.at + m) (old.number + 1) [])) (sym whole)
-          ∙ ap (λ (t : List ℕ). behind (line_of old.comments old.at old.number ahead) (told_lines old.comments old.budget (old.at + n) (old.number + 1) t)) (sym gone);
+          ∙ ap (λ m. line_then (line_of old.comments old.at old.number ahead) (told_lines old.comments old.budget (old.at + m) (old.number + 1) [])) (sym whole)
+          ∙ ap (λ (t : List ℕ). line_then (line_of old.comments old.at old.number ahead) (told_lines old.comments old.budget (old.at + n) (old.number + 1) t)) (sym gone);
       place = refl;
       count = refl;
       words = refl;
@@ -165,7 +166,7 @@ gives_equal told old new next line bytes text gives line_is same new_is =
 
 pub gives_feed :
     {S : Type 0} (told : S → Told) (old new : Stream S) (source : S) (ahead lent bytes : List ℕ) (n : ℕ) (line : Line) →
-    old.fault ≡ None → left_of told old ≡ left_with ahead (told source) → n ≤ 65536 → n < length ahead → HasNoFeed ahead n →
+    old.fault ≡ None → left_of told old ≡ left_with ahead (told source) → n ≤ MOST_LINE_BYTES → n < length ahead → HasNoFeed ahead n →
     get_or ahead n 0 ≡ 10 → old.at + (n + 1) ≤ old.budget → lent ≡ ahead → bytes ≡ without_return (take n lent) →
     line ≡ line_of old.comments old.at old.number bytes → new ≡ passed old source ahead (n + 1) →
     GivesLine told old line new
@@ -176,7 +177,7 @@ gives_feed told old new source ahead lent bytes n line calm left short within no
 
 pub gives_last :
     {S : Type 0} (told : S → Told) (old new : Stream S) (source : S) (ahead bytes : List ℕ) (n : ℕ) (line : Line) →
-    old.fault ≡ None → left_of told old ≡ left_with ahead (told source) → n ≤ 65536 → n ≡ length ahead → HasNoFeed ahead n →
+    old.fault ≡ None → left_of told old ≡ left_with ahead (told source) → n ≤ MOST_LINE_BYTES → n ≡ length ahead → HasNoFeed ahead n →
     IsAtEnd (told source) → 0 < n → old.at + n ≤ old.budget → bytes ≡ ahead →
     line ≡ line_of old.comments old.at old.number bytes → new ≡ passed old source ahead n →
     GivesLine told old line new
@@ -191,12 +192,12 @@ may_follow end ahead None ends = tt
 may_follow end ahead (Some rest) (inl e) = inl e
 may_follow end ahead (Some rest) (inr e) = inr (at_end_behind ahead (Some rest) e.1.0 e.1.1)
 
-says_by : (f g : List ℕ → Flow) (line : Line) (taken : List ℕ) (P : List ℕ → Type 0) (old new : Told) → Takes old new taken → ((rest : List ℕ) → P rest → f (taken ++ rest) ≡ behind line (g rest)) → IfSome new P → option_map f old ≡ option_map (behind line) (option_map g new)
+says_by : (f g : List ℕ → Flow) (line : Line) (taken : List ℕ) (P : List ℕ → Type 0) (old new : Told) → Takes old new taken → ((rest : List ℕ) → P rest → f (taken ++ rest) ≡ line_then line (g rest)) → IfSome new P → option_map f old ≡ option_map (line_then line) (option_map g new)
 says_by f g line taken P old None takes first follows = ap (option_map f) takes
 says_by f g line taken P old (Some rest) takes first follows = ap (option_map f) takes ∙ ap Some (first rest follows)
 
 -- a line that was given is the first of what the stream had still to say
-pub says_line : {S : Type 0} (told : S → Told) (old new : Stream S) (line : Line) → GivesLine told old line new → flow_left told old ≡ option_map (behind line) (flow_left told new)
+pub says_line : {S : Type 0} (told : S → Told) (old new : Stream S) (line : Line) → GivesLine told old line new → flow_left told old ≡ option_map (line_then line) (flow_left told new)
 says_line told old new line g =
     says_by (flow_of old) (flow_of new) line (line.bytes ++ g.end) (λ rest. IsLineEnd g.end ⊎ (rest ≡ [])) (left_of told old) (left_of told new) g.taken g.first
     (may_follow g.end new.ahead (told new.source) g.ends)
@@ -220,7 +221,7 @@ end_by f None end is = tt
 end_by f (Some rest) end is = ap f end ∙ is
 
 -- a line feed past the budget was read ahead
-pub shows_feed_past : (comments : Bool) (budget at number : ℕ) (ahead rest : List ℕ) (n : ℕ) → n ≤ 65536 → n < length ahead → HasNoFeed ahead n → get_or ahead n 0 ≡ 10 → budget < at + (n + 1) → told_lines comments budget at number (ahead ++ rest) ≡ fault_alone (Bytes budget)
+pub shows_feed_past : (comments : Bool) (budget at number : ℕ) (ahead rest : List ℕ) (n : ℕ) → n ≤ MOST_LINE_BYTES → n < length ahead → HasNoFeed ahead n → get_or ahead n 0 ≡ 10 → budget < at + (n + 1) → told_lines comments budget at number (ahead ++ rest) ≡ fault_alone (Bytes budget)
 shows_feed_past comments budget at number ahead rest n short within none found past =
     let size : length (take n ahead) ≡ n = length-take-le n ahead (omega arith) in
     ap (told_lines comments budget at number)
@@ -232,14 +233,14 @@ long_split : (ahead rest : List ℕ) (n : ℕ) → ahead ++ rest ≡ take n ahea
 long_split ahead rest n = ap (λ (t : List ℕ). t ++ rest) (sym (take-append-drop n ahead)) ∙ append_assoc (take n ahead) (drop n ahead) rest
 
 -- too many bytes without a line feed were read ahead
-pub shows_long : (comments : Bool) (budget at number : ℕ) (ahead rest : List ℕ) (limit : ℕ) → limit < length ahead → HasNoFeed ahead (limit + 1) → limit ≡ 65536 → at + 65536 < budget → told_lines comments budget at number (ahead ++ rest) ≡ fault_alone (TooLong at)
+pub shows_long : (comments : Bool) (budget at number : ℕ) (ahead rest : List ℕ) (limit : ℕ) → limit < length ahead → HasNoFeed ahead (limit + 1) → limit ≡ MOST_LINE_BYTES → at + MOST_LINE_BYTES < budget → told_lines comments budget at number (ahead ++ rest) ≡ fault_alone (TooLong at)
 shows_long comments budget at number ahead rest limit within none long fits =
     let size : length (take (limit + 1) ahead) ≡ limit + 1 = length-take-le (limit + 1) ahead (omega arith) in
     ap (told_lines comments budget at number) (long_split ahead rest (limit + 1))
     ∙ told_lines-long comments budget at number (take (limit + 1) ahead) (drop (limit + 1) ahead ++ rest) (front_is_dark ahead (limit + 1) (omega arith) none) (omega arith) fits
 
 -- or they reach past the budget
-pub shows_past : (comments : Bool) (budget at number : ℕ) (ahead rest : List ℕ) (limit : ℕ) → limit < length ahead → HasNoFeed ahead (limit + 1) → at ≤ budget → budget - at ≤ 65536 → limit ≡ budget - at → told_lines comments budget at number (ahead ++ rest) ≡ fault_alone (Bytes budget)
+pub shows_past : (comments : Bool) (budget at number : ℕ) (ahead rest : List ℕ) (limit : ℕ) → limit < length ahead → HasNoFeed ahead (limit + 1) → at ≤ budget → budget - at ≤ MOST_LINE_BYTES → limit ≡ budget - at → told_lines comments budget at number (ahead ++ rest) ≡ fault_alone (Bytes budget)
 shows_past comments budget at number ahead rest limit within none order low same =
     let size : length (take (limit + 1) ahead) ≡ limit + 1 = length-take-le (limit + 1) ahead (omega arith) in
     ap (told_lines comments budget at number) (long_split ahead rest (limit + 1))

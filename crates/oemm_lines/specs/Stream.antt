@@ -1,7 +1,9 @@
 -- What a source says line by line, as a function of its bytes, and a stream of its lines.
-use Rattle.std.specs.Prelude.{◌≡◌, ℕ, ◌+◌, ◌<◌, ◌≤◌, nat_lt, Bool, true, false, ◌&&◌, ◌==◌, if◌then◌else◌, ◌⊎◌, List, [], ◌∷◌, ◌++◌, length, take, min, slice_range, map, All, Option, Some, None, IfSome, Result, Ok, Err, ⊤}
+use Rattle.std.specs.Prelude.{◌≡◌, ℕ, ◌+◌, ◌*◌, ◌<◌, ◌≤◌, nat_lt, Bool, true, false, ◌&&◌, ◌==◌, if◌then◌else◌, ◌⊎◌, List, [], ◌∷◌, ◌++◌, length, take, min, slice_range, map, All, Option, Some, None, IfSome, Result, Ok, Err, ⊤}
 use Rattle.std.specs.Option.{option_map}
 use Rattle.std.specs.List.{before_first}
+use Rattle.oemm_io.specs.declared.flows.TheConstants.{BLOCK}
+use Rattle.oemm_limits.specs.declared.TheConstants.{MOST_LINE_BYTES}
 use Rattle.fault_counts.specs.Counts.{TellsFailure}
 use Rattle.fault_counts.specs.Told.{Told, Takes, TakesSome, IsAtEnd}
 use Rattle.oemm_lines.specs.Words.{is_blank, begins_with_word, words_of}
@@ -10,10 +12,6 @@ use Rattle.oemm_lines.specs.declared.parts.Word.{Word}
 use Rattle.oemm_lines.specs.declared.parts.Line.{Line}
 use Rattle.oemm_lines.specs.declared.parts.LineFault.{LineFault}
 use Rattle.oemm_lines.specs.declared.parts.LineFault.TheVariants.{Read, TooLong, Bytes, Memory}
-
--- the greatest number of bytes of a line before its line feed
-abbrev pub longest : ℕ
-longest = 65536
 
 -- the bytes up to a line feed or the end, and whether a line feed ends them
 pub record Body : Type 0 where
@@ -77,7 +75,7 @@ IsPlaced l = All (IsWordIn l.bytes) l.words
 -- what is wrong with a line at this place: the part of it that is too long lies within the budget, or a byte of it lies past that
 abbrev pub line_fault : ℕ → ℕ → Body → Option LineFault
 line_fault budget at b =
-    if nat_lt longest (length b.bytes) && nat_lt (at + longest) budget then Some (TooLong at)
+    if nat_lt MOST_LINE_BYTES (length b.bytes) && nat_lt (at + MOST_LINE_BYTES) budget then Some (TooLong at)
     else if nat_lt budget (at + size_of b) then Some (Bytes budget)
     else None
 
@@ -86,8 +84,8 @@ pub record Flow : Type 0 where
   pub lines : List Line
   pub fault : Option LineFault
 
-abbrev pub behind : Line → Flow → Flow
-behind line f = record { lines = line ∷ f.lines; fault = f.fault }
+abbrev pub line_then : Line → Flow → Flow
+line_then line f = record { lines = line ∷ f.lines; fault = f.fault }
 
 abbrev pub fault_alone : LineFault → Flow
 fault_alone fault = record { lines = []; fault = Some fault }
@@ -97,7 +95,7 @@ nothing_more = record { lines = []; fault = None }
 
 -- the line before the flow, or the fault in the place of both
 abbrev pub led_by : Option LineFault → Line → Flow → Flow
-led_by None line f = behind line f
+led_by None line f = line_then line f
 led_by (Some fault) line f = fault_alone fault
 
 -- the line that has these bytes
@@ -118,7 +116,7 @@ told_lines comments budget at number bytes = flow_from comments budget at number
 
 -- the greatest number of bytes that are read ahead
 abbrev pub most_ahead : ℕ
-most_ahead = 131072
+most_ahead = 2 * BLOCK
 
 -- a source, the bytes of it that were read ahead, how many bytes were given before them, the number of the next line,
 -- and the fault that was answered
@@ -180,7 +178,7 @@ pub record GivesLine {S : Type 0} (told : S → Told) (old : Stream S) (line : L
   pub end : List ℕ
   pub ends : IsLineEnd end ⊎ ((end ≡ []) × IsDrained told new)
   pub taken : Takes (left_of told old) (left_of told new) (line.bytes ++ end)
-  pub first : (rest : List ℕ) → IsLineEnd end ⊎ (rest ≡ []) → flow_of old (line.bytes ++ end ++ rest) ≡ behind line (flow_of new rest)
+  pub first : (rest : List ℕ) → IsLineEnd end ⊎ (rest ≡ []) → flow_of old (line.bytes ++ end ++ rest) ≡ line_then line (flow_of new rest)
   pub place : line.at ≡ old.at
   pub count : line.number ≡ old.number
   pub words : line.words ≡ words_in old.comments line.bytes
@@ -205,14 +203,14 @@ SaysFault old (TooLong at) new = IfSome old (λ f. f ≡ fault_alone (TooLong at
 SaysFault old (Bytes taken) new = IfSome old (λ f. f ≡ fault_alone (Bytes taken)) × (new ≡ old)
 
 abbrev pub Says : Option Flow → Result (Option Line) LineFault → Option Flow → Type 0
-Says old (Ok (Some line)) new = old ≡ option_map (behind line) new
+Says old (Ok (Some line)) new = old ≡ option_map (line_then line) new
 Says old (Ok None) new = IfSome old (λ f. f ≡ nothing_more) × (new ≡ old)
 Says old (Err fault) new = SaysFault old fault new
 
 -- the bytes that were read ahead show the fault, whatever follows them: the source was asked only where they show
 -- neither where the line ends nor that it is too long
 abbrev pub Shows : {S : Type 0} → Stream S → LineFault → Type 0
-Shows s Read = HasNoFeed s.ahead (length s.ahead) × (length s.ahead ≤ longest) × (s.at + length s.ahead ≤ s.budget)
+Shows s Read = HasNoFeed s.ahead (length s.ahead) × (length s.ahead ≤ MOST_LINE_BYTES) × (s.at + length s.ahead ≤ s.budget)
 Shows s Memory = ⊤
 Shows s (TooLong at) = (rest : List ℕ) → told_lines s.comments s.budget s.at s.number (s.ahead ++ rest) ≡ fault_alone (TooLong at)
 Shows s (Bytes taken) = (rest : List ℕ) → told_lines s.comments s.budget s.at s.number (s.ahead ++ rest) ≡ fault_alone (Bytes taken)

@@ -5,15 +5,12 @@ ghost use Rattle.fault_counts.specs.Counts.{HasCause};
 ghost use Rattle.fault_counts.specs.Told.{Takes, TakesSome, IsAtEnd};
 ghost use Rattle.oemm_lines.specs.Stream.{left_with, most_ahead};
 
-use oemm_io::{Failed, Source};
+use oemm_io::{BLOCK, Failed, Source};
 use std::alloc::{AllocError, Global};
 use std::marker::Model;
 
-/// How many bytes a take asks for.
-const BLOCK: usize = 65536;
-
 /// How many bytes there is room for.
-const ROOM: usize = 131072;
+const ROOM: usize = 2 * BLOCK;
 
 /// The bytes of a source that were taken and not yet given.
 #[derive(Drop)]
@@ -66,7 +63,7 @@ impl Ahead {
     /// # Errors
     /// `Failed` where the source fails.
     pub fn fill<S: Source>(&mut self, source: &mut S) -> Result<usize, Failed>
-        requires { length self.old ≤ 65536 }
+        requires { length self.old ≤ BLOCK }
         ensures left { left_with self.old (S.left source.old) ≡ left_with self.new (S.left source.new) }
         ensures front { take (length self.old) self.new ≡ self.old }
         ensures count { IfOk result (λ n. length self.new ≡ length self.old + n) }
@@ -91,10 +88,10 @@ impl Ahead {
 fn moved_to_front(buffer: &mut [u8], from: usize, to: usize) -> (usize, usize)
     requires order { from ≤ to }
     requires within { to ≤ length buffer.old }
-    requires short { to - from ≤ 65536 }
+    requires short { to - from ≤ BLOCK }
     ensures kept { slice_range buffer.new result.0 result.1 ≡ slice_range buffer.old from to }
     ensures order { result.0 ≤ result.1 }
-    ensures low { result.1 ≤ 65536 }
+    ensures low { result.1 ≤ BLOCK }
 {
     if to <= BLOCK {
         return (from, to);
@@ -105,10 +102,11 @@ fn moved_to_front(buffer: &mut [u8], from: usize, to: usize) -> (usize, usize)
 
 /// Takes a block into the buffer from a place on.
 fn take_block<S: Source>(buffer: &mut [u8], at: usize, source: &mut S) -> Result<usize, Failed>
-    requires { at + 65536 ≤ length buffer.old }
+    requires { at + BLOCK ≤ length buffer.old }
     ensures front { take at buffer.new ≡ take at buffer.old }
-    ensures within { IfOk result (λ n. n ≤ 65536) }
-    ensures taken { IfOk result (λ n. Takes (S.left source.old) (S.left source.new) (slice_range buffer.new at (at + n))) }
+    ensures within { IfOk result (λ n. n ≤ BLOCK) }
+    ensures taken { IfOk result
+        (λ n. Takes (S.left source.old) (S.left source.new) (slice_range buffer.new at (at + n))) }
     ensures end { IfOk result (λ n. n ≡ 0 → IsAtEnd (S.left source.old)) }
     ensures err { OnErr result (S.left source.new ≡ S.left source.old) }
     ensures source { TakesSome (S.left source.old) (S.left source.new) }

@@ -10,6 +10,7 @@ ghost use Rattle.oemm_lines.specs.Ends.{IsFound};
 use super::ahead::Ahead;
 use memchr::memchr;
 use oemm_io::{Failed, Source};
+use oemm_limits::MOST_LINE_BYTES;
 
 /// Where the next line ends, as far as it was looked at.
 #[derive(Clone, Copy)]
@@ -41,7 +42,7 @@ fn feed_from(bytes: &[u8], seen: usize, until: usize) -> Option<usize>
 /// # Errors
 /// `Failed` where the source fails.
 pub fn find_end<S: Source>(source: &mut S, ahead: &mut Ahead, limit: usize) -> Result<Found, Failed>
-    requires limit { limit ≤ 65536 }
+    requires limit { limit ≤ MOST_LINE_BYTES }
     requires room { length ahead.old ≤ most_ahead }
     ensures left { left_with ahead.old (S.left source.old) ≡ left_with ahead.new (S.left source.new) }
     ensures room { length ahead.new ≤ most_ahead }

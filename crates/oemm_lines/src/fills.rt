@@ -69,10 +69,14 @@ pub fn fill_from<S: Source>(
 ) -> Result<usize, Stop>
     requires { length ahead.old ≤ most_ahead }
     ensures fits { IfOk result (λ n. (n ≤ length buf.new) × (n ≤ room)) }
-    ensures taken { IfOk result (λ n. Takes (left_with ahead.old (S.left source.old)) (left_with ahead.new (S.left source.new)) (take n buf.new)) }
+    ensures taken { IfOk result
+        (λ n. Takes (left_with ahead.old (S.left source.old)) (left_with ahead.new (S.left source.new))
+        (take n buf.new)) }
     ensures whole { IfOk result (λ n. n < length buf.new → (ahead.new ≡ []) × IsAtEnd (S.left source.new)) }
-    ensures lost { OnErr result (TakesSome (left_with ahead.old (S.left source.old)) (left_with ahead.new (S.left source.new))) }
-    ensures past { IsErrOf result Stop.Past → IfSome (left_with ahead.old (S.left source.old)) (λ rest. room < min (length buf.new) (length rest)) }
+    ensures lost { OnErr result
+        (TakesSome (left_with ahead.old (S.left source.old)) (left_with ahead.new (S.left source.new))) }
+    ensures past { IsErrOf result Stop.Past →
+        IfSome (left_with ahead.old (S.left source.old)) (λ rest. room < min (length buf.new) (length rest)) }
     ensures wide { IsErrOf result Stop.Past → room < length buf.new }
     ensures asked { IsErrOf result Stop.Failed → length ahead.old < length buf.new }
     ensures room { length ahead.new ≤ most_ahead }

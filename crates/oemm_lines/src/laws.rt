@@ -4,10 +4,11 @@ ghost use Rattle.std.specs.Prelude.{◌≡◌, ◌≢◌, ℕ, ◌+◌, ◌^◌,
 ghost use Rattle.std.specs.Fmt.{decimal, signed_decimal};
 ghost use Rattle.oemm_lines.specs.Words.{is_blank, words_of};
 ghost use Rattle.oemm_lines.specs.Lines.{without_return};
-ghost use Rattle.oemm_lines.specs.Numbers.{whole_of, integer_of};
-ghost use Rattle.oemm_lines.specs.Stream.{longest, uncommented, words_in, word_in, IsWordIn, line_of, behind, fault_alone, nothing_more, told_lines};
+ghost use Rattle.oemm_lines.specs.Numbers.{unsigned_of, integer_of};
+ghost use Rattle.oemm_lines.specs.Stream.{uncommented, words_in, word_in, IsWordIn, line_of, line_then, fault_alone, nothing_more, told_lines};
 
 use super::parts::LineFault;
+use oemm_limits::MOST_LINE_BYTES;
 
 /// How a line falls into words.
 pub fn word_laws()
@@ -20,7 +21,7 @@ pub fn word_laws()
 
 /// The decimal text of a number writes that number.
 pub fn number_laws()
-    ensures whole { (n : ℕ) → n < 10 ^ 64 → whole_of (decimal n) ≡ Some n }
+    ensures whole { (n : ℕ) → n < 10 ^ 64 → unsigned_of (decimal n) ≡ Some n }
     ensures integer { (z : ℤ) → nat_abs z < 10 ^ 64 → integer_of (signed_decimal z) ≡ Some z }
 {}
 
@@ -35,20 +36,20 @@ pub fn word_place_laws()
 pub fn told_line_laws()
     ensures none { (comments : Bool) (budget at number : ℕ) → told_lines comments budget at number [] ≡ nothing_more }
     ensures ended { (comments : Bool) (budget at number : ℕ) (body rest : List ℕ) → All (λ c. c ≢ 10) body →
-        length body ≤ longest → at + (length body + 1) ≤ budget →
+        length body ≤ MOST_LINE_BYTES → at + (length body + 1) ≤ budget →
         told_lines comments budget at number (body ++ 10 ∷ rest)
-        ≡ behind (line_of comments at number (without_return body))
+        ≡ line_then (line_of comments at number (without_return body))
         (told_lines comments budget (at + (length body + 1)) (number + 1) rest) }
     ensures last { (comments : Bool) (budget at number : ℕ) (body : List ℕ) → body ≢ [] → All (λ c. c ≢ 10) body →
-        length body ≤ longest → at + length body ≤ budget →
-        told_lines comments budget at number body ≡ behind (line_of comments at number body) nothing_more }
+        length body ≤ MOST_LINE_BYTES → at + length body ≤ budget →
+        told_lines comments budget at number body ≡ line_then (line_of comments at number body) nothing_more }
     ensures too_long { (comments : Bool) (budget at number : ℕ) (front rest : List ℕ) → All (λ c. c ≢ 10) front →
-        longest < length front → at + longest < budget →
+        MOST_LINE_BYTES < length front → at + MOST_LINE_BYTES < budget →
         told_lines comments budget at number (front ++ rest) ≡ fault_alone (LineFault.TooLong at) }
     ensures past { (comments : Bool) (budget at number : ℕ) (front rest : List ℕ) → All (λ c. c ≢ 10) front →
-        at ≤ budget → budget ≤ at + longest → budget < at + length front →
+        at ≤ budget → budget ≤ at + MOST_LINE_BYTES → budget < at + length front →
         told_lines comments budget at number (front ++ rest) ≡ fault_alone (LineFault.Bytes budget) }
     ensures end_past { (comments : Bool) (budget at number : ℕ) (body rest : List ℕ) → All (λ c. c ≢ 10) body →
-        length body ≤ longest → budget < at + (length body + 1) →
+        length body ≤ MOST_LINE_BYTES → budget < at + (length body + 1) →
         told_lines comments budget at number (body ++ 10 ∷ rest) ≡ fault_alone (LineFault.Bytes budget) }
 {}

@@ -4,7 +4,7 @@
 mod ahead;
 mod ends;
 mod fills;
-mod laws;
+pub mod laws;
 mod line_words;
 mod lines;
 mod numbers;
@@ -17,8 +17,7 @@ mod stream_tests;
 mod tests;
 mod words;
 
-pub use laws::{number_laws, told_line_laws, word_laws, word_place_laws};
 pub use line_words::WordsLeft;
-pub use numbers::{integer, whole};
+pub use numbers::{integer, unsigned};
 pub use parts::{Line, LineFault, Word, Words};
 pub use stream::Lines;

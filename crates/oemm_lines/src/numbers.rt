@@ -3,12 +3,12 @@
 ghost use Rattle.std.specs.Prelude.{◌≡◌, ℕ, ◌+◌, ◌-◌, ◌*◌, ◌^◌, ℤ, pos, neg_ℤ, min, MatchOption};
 ghost use Rattle.std.specs.Int.{IsInRange};
 ghost use Rattle.std.specs.Option.{option_map};
-ghost use Rattle.oemm_lines.specs.Numbers.{whole_of, integer_of, held_whole, held_back};
+ghost use Rattle.oemm_lines.specs.Numbers.{unsigned_of, integer_of, clamped_unsigned, held_back};
 
 /// The number with one more digit.
 fn with_digit(value: u128, digit: u8) -> u128
     requires { IsInRange 48 57 digit }
-    ensures { result ≡ held_whole (value * 10 + (digit - 48)) }
+    ensures { result ≡ clamped_unsigned (value * 10 + (digit - 48)) }
 {
     value
         .saturating_mul(10)
@@ -17,24 +17,24 @@ fn with_digit(value: u128, digit: u8) -> u128
 }
 
 /// The number as far as 2^62.
-fn held(value: u128) -> i64
+fn clamped(value: u128) -> i64
     ensures { result ≡ pos (min value (2 ^ 62)) }
 {
     value.min(1 << 62) as i64
 }
 
 /// The number below zero as far as -2^62.
-fn held_below(value: u128) -> i64
+fn clamped_below(value: u128) -> i64
     ensures { result ≡ neg_ℤ (pos (min value (2 ^ 62))) }
 {
-    -held(value)
+    -clamped(value)
 }
 
 /// The number that a word of digits writes: 2^127 stands for each from there on.
-pub fn whole(word: &[u8]) -> Option<u128>
-    ensures value { result ≡ option_map held_whole (whole_of word.now) }
-    ensures cases { MatchOption result (whole_of word.now ≡ None)
-        (λ m. (n : ℕ) × (whole_of word.now ≡ Some n) × (m ≡ held_whole n)) }
+pub fn unsigned(word: &[u8]) -> Option<u128>
+    ensures value { result ≡ option_map clamped_unsigned (unsigned_of word.now) }
+    ensures cases { MatchOption result (unsigned_of word.now ≡ None)
+        (λ m. (n : ℕ) × (unsigned_of word.now ≡ Some n) × (m ≡ clamped_unsigned n)) }
 {
     if word.is_empty() {
         return None;
@@ -57,8 +57,8 @@ pub fn integer(word: &[u8]) -> Option<i64>
 {
     let (first, digits) = word.split_first()?;
     if *first == b'-' {
-        Some(held_below(whole(digits)?))
+        Some(clamped_below(unsigned(digits)?))
     } else {
-        Some(held(whole(word)?))
+        Some(clamped(unsigned(word)?))
     }
 }

@@ -1,7 +1,7 @@
 //! A line, its words, and what can stand in its place.
 
-use mesh_data::{Bytes, List};
 use oemm_io::Failed;
+use oemm_lists::{Bytes, List};
 use std::alloc::AllocError;
 
 /// A word of a line: its bytes from the place `from` up to, not including, the place `to`, counted from 0.

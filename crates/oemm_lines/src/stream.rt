@@ -6,13 +6,11 @@ use super::fills::{Stop, fill_from};
 use super::lines::without_carriage_return;
 use super::parts::{Line, LineFault};
 use super::places::words_of_line;
-use mesh_data::Bytes;
 use oemm_io::Source;
+use oemm_limits::MOST_LINE_BYTES;
+use oemm_lists::Bytes;
 use std::alloc::{AllocError, Global};
 use std::marker::Model;
-
-/// The greatest number of bytes of a line before its line feed.
-const LONGEST: u64 = 65536;
 
 /// A reader of the lines of a source.
 ///
@@ -120,7 +118,8 @@ impl<S: Source> Lines<S> {
         ensures size { OnOk result (end_of S.left self.new ≡ end_of S.left self.old) }
         ensures room { length self.new.ahead ≤ most_ahead }
         ensures source { TakesSome (S.left self.old.source) (S.left self.new.source) }
-        ensures cause { self.old.fault ≡ None → TellsFailure LineFault.Read (S.faults self.old.source) (S.faults self.new.source) result }
+        ensures cause { self.old.fault ≡ None →
+            TellsFailure LineFault.Read (S.faults self.old.source) (S.faults self.new.source) result }
         ensures same { (self.new.budget ≡ self.old.budget) × (self.new.comments ≡ self.old.comments) }
     {
         if let Some(fault) = self.fault {
@@ -145,7 +144,8 @@ impl<S: Source> Lines<S> {
         ensures size { OnOk result (end_of S.left self.new ≡ end_of S.left self.old) }
         ensures room { length self.new.ahead ≤ most_ahead }
         ensures source { TakesSome (S.left self.old.source) (S.left self.new.source) }
-        ensures cause { self.old.fault ≡ None → TellsFailure LineFault.Read (S.faults self.old.source) (S.faults self.new.source) result }
+        ensures cause { self.old.fault ≡ None →
+            TellsFailure LineFault.Read (S.faults self.old.source) (S.faults self.new.source) result }
         ensures same { (self.new.budget ≡ self.old.budget) × (self.new.comments ≡ self.old.comments) }
     {
         if let Some(fault) = self.fault {
@@ -196,7 +196,7 @@ impl<S: Source> Lines<S> {
         ensures same { (self.new.budget ≡ self.old.budget) × (self.new.comments ≡ self.old.comments) }
     {
         let room = self.budget - self.at;
-        let limit = room.min(LONGEST) as usize;
+        let limit = room.min(MOST_LINE_BYTES) as usize;
         match find_end(&mut self.source, &mut self.ahead, limit)? {
             Found::Feed(length) => {
                 if length as u64 >= room {
@@ -217,7 +217,7 @@ impl<S: Source> Lines<S> {
                 Ok(Some(line))
             }
             Found::Long => {
-                if room > LONGEST {
+                if room > MOST_LINE_BYTES {
                     return Err(LineFault::TooLong { at: self.at });
                 }
                 Err(LineFault::Bytes { taken: self.budget })
@@ -227,7 +227,7 @@ impl<S: Source> Lines<S> {
 
     /// The next line, which has these bytes.
     fn line(&self, bytes: &[u8]) -> Result<Line, AllocError>
-        requires short { length bytes.now ≤ 65536 }
+        requires short { length bytes.now ≤ MOST_LINE_BYTES }
         requires room { self.now.number < 2 ^ 64 }
         ensures { IfOk result (λ line. line ≡ line_of self.now.comments self.now.at self.now.number bytes.now) }
     {

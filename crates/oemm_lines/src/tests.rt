@@ -1,4 +1,4 @@
-use super::{integer, whole};
+use super::{integer, unsigned};
 
 #[test]
 fn numbers(rt: HostRuntime) {
@@ -30,11 +30,11 @@ fn numbers(rt: HostRuntime) {
         ),
     ];
     for (word, as_whole, as_integer) in &rows {
-        assert_eq!(rt; whole(word), *as_whole);
+        assert_eq!(rt; unsigned(word), *as_whole);
         assert_eq!(rt; integer(word), *as_integer);
     }
     assert_eq!(rt;
-        whole(b"1234567890123456789012345678901234567890"),
+        unsigned(b"1234567890123456789012345678901234567890"),
         Some(1 << 127)
     );
 }

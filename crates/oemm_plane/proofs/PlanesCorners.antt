@@ -1,7 +1,7 @@
 -- A plane is the same from each corner of its triangle.
 use Rattle.std.proofs.Common.{◌≡◌, ap, ◌∙◌, arith}
 use Rattle.std.proofs.Math.IntN.{ℤ, pos, ◌+ℤ◌, ◌-ℤ◌, ◌*ℤ◌, neg_ℤ, *ℤ_comm}
-use Rattle.mesh_data.specs.declared.geometry.Point.{Point}
+use Rattle.oemm_octree.specs.declared.points.Point.{Point}
 use Rattle.mesh_data.specs.declared.planes.Plane.{Plane}
 use Rattle.mesh_data.specs.Planes.{plane_of, normal_x, normal_y, normal_z, dot}
 use Rattle.oemm_plane.proofs.PlanesInts.{product_of_differences, difference_times, times_difference, outer_swapped, sums}

@@ -1,7 +1,7 @@
 //! What follows from the definitions of planes and of their sums.
 
 ghost use Rattle.std.specs.Prelude.{◌≡◌, [], ◌∷◌, ◌++◌, List, length, pos, ◌≤ℤ◌, IsPermutation};
-ghost use Rattle.mesh_data.specs.declared.geometry.Point.{Point};
+ghost use Rattle.oemm_octree.specs.declared.points.Point.{Point};
 ghost use Rattle.mesh_data.specs.declared.planes.Plane.{Plane};
 ghost use Rattle.mesh_data.specs.Planes.{squares, Sums, products, added, sums_of, sums_value};
 

@@ -1,10 +1,9 @@
 //! Planes of triangles, and the quadrics of lists of planes, in exact whole numbers.
 #![tactic(auto)]
 
-mod laws;
+pub mod laws;
 mod quad_sums;
 mod triangle_planes;
 
-pub use laws::sums_laws;
 pub use quad_sums::QuadSums;
 pub use triangle_planes::{folds, plane_from_each_corner, plane_of};

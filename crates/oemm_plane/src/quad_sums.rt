@@ -5,7 +5,8 @@ ghost use Rattle.mesh_data.specs.declared.planes.Plane.{Plane};
 ghost use Rattle.mesh_data.specs.Planes.{squares, Sums, no_sums, products, added, sums_of, sums_value, most_planes};
 ghost use Rattle.mesh_data.specs.Quads.{sums_in};
 
-use mesh_data::{Plane, Point, Quad};
+use mesh_data::{Plane, Quad};
+use oemm_octree::Point;
 
 /// The sums of products of the coefficients of planes, with whole numbers of 128 bits. None of the calls can
 /// fail, and none takes memory.
@@ -125,7 +126,9 @@ fn merged(p: &Quad, q: &Quad) -> Quad
 
 /// aa x² + bb y² + cc z².
 fn squares_part(q: &Quad, p: &Point) -> i128
-    ensures value { result ≡ ((q.now.aa *ℤ (p.now.x *ℤ p.now.x)) +ℤ (q.now.bb *ℤ (p.now.y *ℤ p.now.y))) +ℤ (q.now.cc *ℤ (p.now.z *ℤ p.now.z)) }
+    ensures value { result
+        ≡ ((q.now.aa *ℤ (p.now.x *ℤ p.now.x)) +ℤ (q.now.bb *ℤ (p.now.y *ℤ p.now.y))) +ℤ
+        (q.now.cc *ℤ (p.now.z *ℤ p.now.z)) }
     ensures size { nat_abs result ≤ q.now.planes * (3 * 2 ^ 94) }
 {
     sum(
@@ -136,7 +139,9 @@ fn squares_part(q: &Quad, p: &Point) -> i128
 
 /// ab xy + ac xz + bc yz.
 fn mixed_part(q: &Quad, p: &Point) -> i128
-    ensures value { result ≡ ((q.now.ab *ℤ (p.now.x *ℤ p.now.y)) +ℤ (q.now.ac *ℤ (p.now.x *ℤ p.now.z))) +ℤ (q.now.bc *ℤ (p.now.y *ℤ p.now.z)) }
+    ensures value { result
+        ≡ ((q.now.ab *ℤ (p.now.x *ℤ p.now.y)) +ℤ (q.now.ac *ℤ (p.now.x *ℤ p.now.z))) +ℤ
+        (q.now.bc *ℤ (p.now.y *ℤ p.now.z)) }
     ensures size { nat_abs result ≤ q.now.planes * (3 * 2 ^ 94) }
 {
     sum(
@@ -147,7 +152,10 @@ fn mixed_part(q: &Quad, p: &Point) -> i128
 
 /// The mixed part and ad x + bd y + cd z.
 fn half_part(q: &Quad, p: &Point) -> i128
-    ensures value { result ≡ ((((q.now.ab *ℤ (p.now.x *ℤ p.now.y)) +ℤ (q.now.ac *ℤ (p.now.x *ℤ p.now.z))) +ℤ (q.now.bc *ℤ (p.now.y *ℤ p.now.z))) +ℤ ((q.now.ad *ℤ p.now.x) +ℤ (q.now.bd *ℤ p.now.y))) +ℤ (q.now.cd *ℤ p.now.z) }
+    ensures value { result
+        ≡ ((((q.now.ab *ℤ (p.now.x *ℤ p.now.y)) +ℤ (q.now.ac *ℤ (p.now.x *ℤ p.now.z))) +ℤ
+        (q.now.bc *ℤ (p.now.y *ℤ p.now.z))) +ℤ ((q.now.ad *ℤ p.now.x) +ℤ (q.now.bd *ℤ p.now.y))) +ℤ
+        (q.now.cd *ℤ p.now.z) }
     ensures size { nat_abs result ≤ q.now.planes * (15 * 2 ^ 94) }
 {
     sum(

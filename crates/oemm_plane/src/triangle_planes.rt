@@ -1,11 +1,12 @@
 //! The plane of a triangle, and the fold test.
 
 ghost use Rattle.std.specs.Prelude.{◌≡◌, ◌&&◌, ◌==◌, ◌≤◌, ◌<◌, ◌^◌, ◌+ℤ◌, ◌-ℤ◌, ◌*ℤ◌, nat_abs};
-ghost use Rattle.mesh_data.specs.declared.geometry.Point.{Point};
+ghost use Rattle.oemm_octree.specs.declared.points.Point.{Point};
 ghost use Rattle.mesh_data.specs.Planes.{plane_of, normal_x, normal_y, normal_z, dot, folds};
 ghost use Rattle.oemm_plane.specs.PlaneBounds.{IsNormalBounded};
 
-use mesh_data::{Plane, Point};
+use mesh_data::Plane;
+use oemm_octree::Point;
 
 /// How far the first coordinate lies above the second.
 fn difference(a: i16, b: i16) -> i64

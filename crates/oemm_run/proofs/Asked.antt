@@ -4,12 +4,12 @@ use Rattle.mesh_out.specs.declared.form.Form.{Form}
 use Rattle.fault_counts.proofs.InRow.{takes_some_none}
 use Rattle.oemm_run.specs.declared.end.End.{End}
 use Rattle.oemm_run.specs.declared.end.End.TheVariants.{Usage, Memory}
-use Rattle.oemm_run.specs.declared.orders.Order.{Order}
-use Rattle.oemm_run.specs.declared.orders.Order.TheVariants.{Run}
+use Rattle.oemm_words.specs.declared.orders.Order.{Order}
+use Rattle.oemm_words.specs.declared.orders.Order.TheVariants.{Run}
 use Rattle.oemm_run.specs.Commands.Run.{RunGives}
 use Rattle.oemm_run.specs.Gives.{GivesOrder, Gives}
 use Rattle.oemm_run.specs.Outside.{Outside}
-use Rattle.oemm_run.specs.Words.{order_of}
+use Rattle.oemm_words.specs.Words.{order_of}
 
 -- words in no form are refused
 pub no_form : (words : List (List ℕ)) (o : Outside) → order_of words ≡ None → Gives words o o Usage

@@ -5,13 +5,13 @@ use Rattle.fault_counts.specs.Told.{Told, TakesSome}
 use Rattle.fault_counts.proofs.InRow.{takes_some_none}
 use Rattle.oemm_run.specs.declared.end.End.{End}
 use Rattle.oemm_run.specs.declared.end.End.TheVariants.{Done, Usage, ReadMesh, ReadScript, MeshText, MeshShape, ScriptText, WriteOut, WriteReport, Limit, Memory}
-use Rattle.oemm_run.specs.declared.orders.Order.{Order}
-use Rattle.oemm_run.specs.declared.orders.Order.TheVariants.{Run}
+use Rattle.oemm_words.specs.declared.orders.Order.{Order}
+use Rattle.oemm_words.specs.declared.orders.Order.TheVariants.{Run}
 use Rattle.oemm_run.specs.Commands.Run.{Asked, RunGives}
 use Rattle.oemm_run.specs.Gives.{Refuses, GivesOrder, Gives}
 use Rattle.oemm_run.specs.Laws.Leaves.{TakesFronts, MindsScript, LeavesSinks}
 use Rattle.oemm_run.specs.Outside.{Outside, Input, IsUnwritten}
-use Rattle.oemm_run.specs.Words.{order_of}
+use Rattle.oemm_words.specs.Words.{order_of}
 use Rattle.oemm_run.proofs.Stands.{Stands, all_done, at_mesh, at_shape, at_script, at_tasks, at_out, at_report, stands}
 
 -- a refusal leaves all as it was

@@ -1,7 +1,6 @@
 pub mod Readings
 pub mod Texts
 pub mod Sources
-pub mod Boxes
 pub mod Takings
 pub mod MeshPhase
 pub mod ScriptPhase

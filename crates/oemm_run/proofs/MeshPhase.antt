@@ -2,8 +2,8 @@
 use Rattle.std.proofs.Common.{◌≡◌, ℕ, Result, Ok, Err, IfOk, IfSome, IsErrOf, refl, inl, inr}
 use Rattle.fault_counts.specs.Counts.{TellsFailure}
 use Rattle.mesh_data.specs.declared.geometry.Soup.{Soup}
-use Rattle.mesh_data.specs.declared.items.MeshFault.{MeshFault}
-use Rattle.mesh_data.specs.declared.items.MeshFault.TheVariants.{Read, Text, TooMany, Memory}
+use Rattle.mesh_items.specs.declared.items.MeshFault.{MeshFault}
+use Rattle.mesh_items.specs.declared.items.MeshFault.TheVariants.{Read, Text, TooMany, Memory}
 use Rattle.oemm_run.specs.Outside.{Input, HasTaken}
 use Rattle.oemm_run.specs.Phases.Mesh.{ReadsMesh}
 use Rattle.oemm_run.specs.Soup.{IsSoup, soup_of, GivesSoup}

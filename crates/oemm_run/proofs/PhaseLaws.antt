@@ -6,8 +6,8 @@ use Rattle.mesh_data.specs.declared.geometry.Soup.{Soup}
 use Rattle.mesh_data.specs.declared.edits.Task.{Task}
 use Rattle.mesh_data.specs.declared.shapes.Shape.{Shape}
 use Rattle.mesh_data.specs.declared.shapes.Audit.TheVariants as audit
-use Rattle.mesh_data.specs.declared.items.MeshFault.{MeshFault}
-use Rattle.mesh_data.specs.declared.items.MeshFault.TheVariants as mesh
+use Rattle.mesh_items.specs.declared.items.MeshFault.{MeshFault}
+use Rattle.mesh_items.specs.declared.items.MeshFault.TheVariants as mesh
 use Rattle.mesh_data.specs.Manifold.{IsManifold, Audits}
 use Rattle.mesh_data.specs.Mesh.{start}
 use Rattle.mesh_model.proofs.Audits.{one_shape, no_shape}

@@ -1,10 +1,10 @@
 -- What the phase of the tasks gives.
 use Rattle.std.proofs.Common.{◌≡◌, ℕ, Bool, true, false, nat_lt, List, [], ◌∷◌, length, if◌then◌else◌, refl, ap, ◌∙◌}
-use Rattle.mesh_data.specs.declared.geometry.Cell.{Cell}
+use Rattle.oemm_octree.specs.declared.cells.Cell.{Cell}
 use Rattle.mesh_data.specs.declared.geometry.Soup.{Soup}
 use Rattle.mesh_data.specs.declared.edits.Task.{Task}
 use Rattle.mesh_data.specs.Mesh.{Mesh, start}
-use Rattle.mesh_data.specs.Octree.{core_of, area_of, is_inside}
+use Rattle.oemm_octree.specs.Octree.{core_of, area_of, is_inside}
 use Rattle.mesh_data.specs.Work.{Did, Played, do_task, play, wide_entry, work}
 use Rattle.mesh_data.specs.Keeps.{tasks_of}
 use Rattle.oemm_run.specs.Phases.Tasks.{InScriptOrder, HasPlayed, played}

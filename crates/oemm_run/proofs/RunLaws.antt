@@ -14,8 +14,8 @@ use Rattle.work_topology.proofs.WorkKeeps.{each_keeps}
 use Rattle.edit_script.specs.Grammar.{script_of}
 use Rattle.oemm_run.specs.declared.end.End.{End}
 use Rattle.oemm_run.specs.declared.end.End.TheVariants.{Done, Usage, ReadMesh, ReadScript, MeshText, MeshShape, ScriptText, WriteOut, WriteReport, Limit, Memory}
-use Rattle.oemm_run.specs.declared.orders.Order.{Order}
-use Rattle.oemm_run.specs.declared.orders.Order.TheVariants.{Run}
+use Rattle.oemm_words.specs.declared.orders.Order.{Order}
+use Rattle.oemm_words.specs.declared.orders.Order.TheVariants.{Run}
 use Rattle.oemm_run.specs.Commands.Run.{Asked, one_leaf, AtScript, AtTasks, IsDone, RunGives, StopsAtMesh, StopsAtShape, StopsAtScript, StopsAtOut, StopsAtReport}
 use Rattle.oemm_run.specs.Gives.{Refuses, GivesOrder, Gives}
 use Rattle.oemm_run.specs.Laws.Headline.{AskFor, WritesPlay, Headline}
@@ -28,7 +28,7 @@ use Rattle.oemm_run.specs.Phases.Tasks.{TasksStop, played}
 use Rattle.oemm_run.specs.Phases.Out.{OutStops}
 use Rattle.oemm_run.specs.Phases.Report.{ReportStops}
 use Rattle.oemm_run.specs.Soup.{soup_of}
-use Rattle.oemm_run.specs.Words.{order_of}
+use Rattle.oemm_words.specs.Words.{order_of}
 use Rattle.oemm_run.proofs.PhaseLaws.{at_bytes, same_soup, not_read, mesh_good, mesh_bad, shape_good, shape_bad, not_read_script, script_good, script_bad, tasks_good, out_good, report_bad, report_calm}
 use Rattle.oemm_run.proofs.Stands.{Stands, all_done, at_mesh, at_shape, at_script, at_tasks, at_out, at_report, stands}
 
@@ -88,7 +88,7 @@ run_stands words before after end run gives = ordered_stands (order_of words) be
 
 module _ (asked : Asked) (before after : Outside) (end : End) (bytes : List ℕ) (told : before.mesh.left ≡ Some bytes) where
   -- where its text has a fault the run tells that, unless the source fails
-  fault_told : (fault : Rattle.mesh_data.specs.declared.items.MeshFault.MeshFault) → soup_of bytes ≡ Err fault → IsCalm before.mesh.faults after.mesh.faults → Stands asked before after end → EndsAs (Rattle.oemm_run.specs.Phases.Mesh.end_of_mesh fault) end
+  fault_told : (fault : Rattle.mesh_items.specs.declared.items.MeshFault.MeshFault) → soup_of bytes ≡ Err fault → IsCalm before.mesh.faults after.mesh.faults → Stands asked before after end → EndsAs (Rattle.oemm_run.specs.Phases.Mesh.end_of_mesh fault) end
   fault_told fault bad calm (all_done e h) = absurd (not_read before.mesh after.mesh bytes told fault _ bad h.earlier.earlier.earlier.earlier.mesh)
   fault_told fault bad calm (at_mesh h) = mesh_bad before.mesh after.mesh bytes told fault end bad calm h.mesh.cause
   fault_told fault bad calm (at_shape h) = absurd (not_read before.mesh after.mesh bytes told fault _ bad h.mesh)

@@ -5,8 +5,8 @@ use Rattle.std.specs.Prelude.{codes}
 use Rattle.std.specs.Str.{bytes_eq}
 use Rattle.fault_counts.specs.Told.{Told, Takes, IsAtEnd}
 use Rattle.mesh_data.specs.declared.geometry.Soup.{Soup}
-use Rattle.mesh_data.specs.declared.items.MeshFault.{MeshFault}
-use Rattle.mesh_data.specs.Reading.{soup}
+use Rattle.mesh_items.specs.declared.items.MeshFault.{MeshFault}
+use Rattle.mesh_items.specs.Reading.{soup}
 use Rattle.ply_reader.specs.Mesh.{begins_as_ply}
 use Rattle.oemm_run.specs.Soup.{limited, soup_of, reading_in, GivesSoup}
 

@@ -1,16 +1,16 @@
 -- The exit statuses and the texts of the ends.
 use Rattle.std.specs.Prelude.{ℕ, List, [], ◌∷◌, ◌++◌, codes}
 use Rattle.std.specs.Fmt.{decimal}
-use Rattle.mesh_data.specs.declared.items.ElementKind.{ElementKind}
-use Rattle.mesh_data.specs.declared.items.ElementKind.TheVariants as element
-use Rattle.mesh_data.specs.declared.items.MeshWhy.{MeshWhy}
-use Rattle.mesh_data.specs.declared.items.MeshWhy.TheVariants as mesh_why
-use Rattle.mesh_data.specs.declared.items.ScriptWhy.{ScriptWhy}
-use Rattle.mesh_data.specs.declared.items.ScriptWhy.TheVariants as script_why
+use Rattle.mesh_items.specs.declared.items.ElementKind.{ElementKind}
+use Rattle.mesh_items.specs.declared.items.ElementKind.TheVariants as element
+use Rattle.mesh_items.specs.declared.items.MeshWhy.{MeshWhy}
+use Rattle.mesh_items.specs.declared.items.MeshWhy.TheVariants as mesh_why
+use Rattle.edit_script.specs.declared.fault.ScriptWhy.{ScriptWhy}
+use Rattle.edit_script.specs.declared.fault.ScriptWhy.TheVariants as script_why
 use Rattle.mesh_data.specs.declared.shapes.Shape.{Shape}
 use Rattle.mesh_data.specs.declared.shapes.Shape.TheVariants as shape
-use Rattle.mesh_data.specs.declared.items.What.{What}
-use Rattle.mesh_data.specs.declared.items.What.TheVariants as what
+use Rattle.oemm_limits.specs.declared.what.What.{What}
+use Rattle.oemm_limits.specs.declared.what.What.TheVariants as what
 use Rattle.oemm_run.specs.declared.end.End.{End}
 use Rattle.oemm_run.specs.declared.end.End.TheVariants.{Done, Usage, ReadMesh, ReadScript, MeshText, MeshShape, ScriptText, WriteOut, WriteReport, Limit, Memory}
 

@@ -2,11 +2,11 @@
 use Rattle.std.specs.Prelude.{◌≡◌, ℕ, List, Option, Some, None, IsSome}
 use Rattle.oemm_run.specs.declared.end.End.{End}
 use Rattle.oemm_run.specs.declared.end.End.TheVariants.{Usage, Memory}
-use Rattle.oemm_run.specs.declared.orders.Order.{Order}
-use Rattle.oemm_run.specs.declared.orders.Order.TheVariants.{Run}
+use Rattle.oemm_words.specs.declared.orders.Order.{Order}
+use Rattle.oemm_words.specs.declared.orders.Order.TheVariants.{Run}
 use Rattle.oemm_run.specs.Commands.Run.{RunGives}
 use Rattle.oemm_run.specs.Outside.{Outside}
-use Rattle.oemm_run.specs.Words.{order_of}
+use Rattle.oemm_words.specs.Words.{order_of}
 
 -- the words are in no form, or memory was wanting to read them, and nothing was touched
 abbrev pub Refuses : Outside → Outside → End → Type 0

@@ -1,6 +1,6 @@
 pub mod End
 pub mod Report
-pub mod Words
+pub use Rattle.oemm_words.specs.Words
 pub mod Soup
 pub mod Texts
 pub mod Outside

@@ -1,7 +1,7 @@
 -- What contracts see of the objects that a command reads and writes.
 use Rattle.std.specs.Prelude.{◌≡◌, ℕ, ◌≤◌, Bool, true, List}
 use Rattle.fault_counts.specs.Counts.{Rose, IsCalm}
-use Rattle.fault_counts.specs.Told.{Told, TakesSome, Puts, PutsFront}
+use Rattle.fault_counts.specs.Told.{Told, TakesSome, Puts, PutsPrefix}
 use Rattle.oemm_io.specs.Whole.{StaysOpen}
 
 -- a source: the bytes that it has left, if it tells them, and how often it has failed
@@ -14,12 +14,12 @@ input left faults = record { left = left; faults = faults }
 
 -- a sink: the bytes that it holds, if it tells them, how often it has failed, and whether it is finished
 pub record Output : Type 0 where
-  pub held : Told
+  pub written : Told
   pub faults : ℕ
   pub finished : Bool
 
 abbrev pub output : Told → ℕ → Bool → Output
-output held faults finished = record { held = held; faults = faults; finished = finished }
+output written faults finished = record { written = written; faults = faults; finished = finished }
 
 pub record Outside : Type 0 where
   pub mesh : Input
@@ -38,14 +38,14 @@ pub record HasFailed (before now : ℕ) : Type 0 where
 
 -- the text was put, all of it and nothing else, the sink is finished, and it hasn't failed
 pub record Wrote (before after : Output) (text : List ℕ) : Type 0 where
-  pub whole : Puts before.held after.held text
+  pub whole : Puts before.written after.written text
   pub finished : after.finished ≡ true
   pub calm : after.faults ≡ before.faults
 
 -- the sink failed, a front of the text was put, and the sink isn't finished unless it was before
 pub record FailedIn (before after : Output) (text : List ℕ) : Type 0 where
   pub cause : HasFailed before.faults after.faults
-  pub front : PutsFront before.held after.held text
+  pub front : PutsPrefix before.written after.written text
   pub unfinished : StaysOpen before.finished after.finished
 
 -- both sinks are as they were

@@ -1,31 +1,28 @@
 -- The points and faces of a mesh's source, up to the limits of this command.
 use Rattle.std.specs.Prelude.{◌≡◌, ℕ, ◌≤◌, ◌++◌, nat_lt, Bool, List, ◌∷◌, length, All, Option, Some, None, Result, Ok, Err, IfSome, ⊤, if◌then◌else◌}
-use Rattle.mesh_data.specs.declared.items.Item.{Item}
-use Rattle.mesh_data.specs.declared.items.Item.TheVariants.{Counts}
-use Rattle.mesh_data.specs.declared.items.MeshFault.{MeshFault}
-use Rattle.mesh_data.specs.declared.items.MeshFault.TheVariants.{Read, Text, TooMany, Memory}
-use Rattle.mesh_data.specs.declared.items.What.TheVariants.{Vertices}
+use Rattle.oemm_limits.specs.declared.TheConstants.{DEFAULT_CAP, MOST_ITEMS}
+use Rattle.mesh_items.specs.declared.items.Item.{Item}
+use Rattle.mesh_items.specs.declared.items.Item.TheVariants.{Counts}
+use Rattle.mesh_items.specs.declared.items.MeshFault.{MeshFault}
+use Rattle.mesh_items.specs.declared.items.MeshFault.TheVariants.{Read, Text, TooMany, Memory}
+use Rattle.oemm_limits.specs.declared.what.What.TheVariants.{Vertices}
 use Rattle.mesh_data.specs.Triangles.{IsProper, IsBelow}
-use Rattle.mesh_data.specs.Reading.{Reading, Given, fault_alone, most_items, soup}
+use Rattle.mesh_items.specs.Reading.{Reading, Given, fault_alone, soup}
 use Rattle.mesh_data.specs.declared.geometry.Soup.{Soup}
 use Rattle.off_reader.specs.Grammar.{off_reading}
 use Rattle.ply_reader.specs.Mesh.{begins_as_ply, ply_reading}
 
--- the greatest number of vertices of a mesh
-abbrev pub most_vertices : ℕ
-most_vertices = 4096
-
 -- the reading r of these items, which stops at a count of vertices above the limit
 abbrev pub limited_by : Reading → List Item → Reading
-limited_by r (Counts v f ∷ items) = if nat_lt most_vertices v then fault_alone (TooMany Vertices v) else r
+limited_by r (Counts v f ∷ items) = if nat_lt DEFAULT_CAP v then fault_alone (TooMany Vertices v) else r
 limited_by r items = r
 
 abbrev pub limited : Reading → Reading
 limited r = limited_by r r.items
 
 -- the reading with these items at its front
-abbrev pub behind_all : List Item → Reading → Reading
-behind_all front r = record { items = front ++ r.items; fault = r.fault }
+abbrev pub items_then : List Item → Reading → Reading
+items_then front r = record { items = front ++ r.items; fault = r.fault }
 
 -- this fault of the text stands behind the items, where they are told
 abbrev pub StopsAt : Option Reading → MeshFault → Type 0
@@ -40,8 +37,8 @@ given_of v f vertices faces = record { counts = Some (v, f); vertices = vertices
 
 -- the points and faces of a mesh within the limits
 pub record IsSoup (s : Soup) : Type 0 where
-  pub points : length s.points ≤ most_vertices
-  pub faces : length s.faces ≤ most_items
+  pub points : length s.points ≤ DEFAULT_CAP
+  pub faces : length s.faces ≤ MOST_ITEMS
   pub proper : All IsProper s.faces
   pub below : All (IsBelow (length s.points)) s.faces
 

@@ -3,7 +3,10 @@
 ghost use Rattle.std.specs.Prelude.{◌≡◌};
 ghost use Rattle.oemm_run.specs.End.{status_of};
 
-use mesh_data::{MeshWhy, ScriptWhy, Shape, What};
+use edit_script::ScriptWhy;
+use mesh_data::Shape;
+use mesh_items::MeshWhy;
+use oemm_limits::What;
 
 /// How a command ended.
 #[derive(Clone, Copy, Debug, PartialEq, Eq)]

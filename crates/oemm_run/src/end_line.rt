@@ -5,7 +5,11 @@ ghost use Rattle.std.specs.String.{string_bytes};
 ghost use Rattle.oemm_run.specs.End.{end_text, end_words, mesh_why_text, script_why_text, shape_text, what_text};
 
 use crate::end::End;
-use mesh_data::{Bytes, ElementKind, MeshWhy, ScriptWhy, Shape, What};
+use edit_script::ScriptWhy;
+use mesh_data::Shape;
+use mesh_items::{ElementKind, MeshWhy};
+use oemm_limits::What;
+use oemm_lists::Bytes;
 use std::alloc::{AllocError, Global};
 
 /// The line that tells how a command ended, and nothing for `Done`.
@@ -106,7 +110,8 @@ fn put_mesh_why(text: &mut String, why: &MeshWhy) -> Result<(), AllocError>
 }
 
 fn put_no_element(text: &mut String, which: &ElementKind) -> Result<(), AllocError>
-    ensures { OnOk result (string_bytes text.new ≡ string_bytes text.old ++ mesh_why_text (MeshWhy.NoElement which.now)) }
+    ensures { OnOk result
+        (string_bytes text.new ≡ string_bytes text.old ++ mesh_why_text (MeshWhy.NoElement which.now)) }
 {
     text.push_str(match which {
         ElementKind::Vertex => "NoElement Vertex",

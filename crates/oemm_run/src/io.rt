@@ -1,8 +1,13 @@
 //! The objects of the outside.
 
+ghost use Rattle.oemm_run.specs.Commands.Run.{RunGives};
 ghost use Rattle.oemm_run.specs.Outside.{Outside};
 
+use crate::commands::run::run_script;
+use crate::end::End;
+use mesh_out::Form;
 use oemm_io::{Sink, Source};
+use std::alloc::Global;
 
 /// What a command reads and writes.
 #[derive(Drop)]
@@ -17,16 +22,26 @@ pub struct Io<M, S, O, R> {
     pub report: R,
 }
 
-/// What contracts see of the objects of the outside.
-pub trait Seen {
+/// Objects that commands work on. Each command gives them back with its end.
+pub trait Commands {
+    /// What contracts see of the objects.
     ghost outside: { Self → Outside };
+
+    /// Does a script on a mesh, each task where its core has at most `core` leaves, and writes the mesh in this format,
+    /// and then the report.
+    fn run_script(self, alloc: Global, form: Form, core: u32) -> (Self, End)
+        ensures { RunGives (record { form = form; core = core }) (outside self) (outside result.0) result.1 };
 }
 
-impl<M: Source, S: Source, O: Sink, R: Sink> Seen for Io<M, S, O, R> {
+impl<M: Source, S: Source, O: Sink, R: Sink> Commands for Io<M, S, O, R> {
     ghost outside = { λ io. record {
       mesh = record { left = M.left io.mesh; faults = M.faults io.mesh };
       script = record { left = S.left io.script; faults = S.faults io.script };
-      out = record { held = O.held io.out; faults = O.faults io.out; finished = O.finished io.out };
-      report = record { held = R.held io.report; faults = R.faults io.report; finished = R.finished io.report };
+      out = record { written = O.written io.out; faults = O.faults io.out; finished = O.finished io.out };
+      report = record { written = R.written io.report; faults = R.faults io.report; finished = R.finished io.report };
     } };
+
+    fn run_script(self, alloc: Global, form: Form, core: u32) -> (Self, End) {
+        run_script(alloc, form, core, self)
+    }
 }

@@ -6,18 +6,15 @@ mod end;
 mod end_line;
 mod io;
 pub mod laws;
-mod orders;
 mod phases;
 mod summary;
 mod top;
-mod words;
 
 pub use end::{End, status};
 pub use end_line::end_text;
-pub use io::{Io, Seen};
-pub use orders::{Order, Roles, WordsFault};
+pub use io::{Commands, Io};
+pub use oemm_words::{Order, Roles, WordsFault, read_words, roles};
 pub use top::run;
-pub use words::{read_words, roles};
 
 #[cfg(test)]
 mod tests;

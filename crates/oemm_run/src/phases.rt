@@ -1,8 +1,8 @@
 //! The phases of a command, each over its own object and the values that it works on.
 
-mod front;
 pub mod mesh;
 pub mod out;
+mod prefix;
 pub mod report;
 pub mod script;
 pub mod shape;

@@ -2,16 +2,16 @@
 use Rattle.std.proofs.Common.{◌≡◌, ℕ, ◌+◌, ◌<◌, ◌≤◌, true, false, List, [], ◌∷◌, length, Option, Some, None, Result, Ok, Err, IsErrAnd, refl, ap, sym, eq-eqb, ne_eqb, lt-ltb, le-ltb, ◌==◌, arith}
 use Rattle.std.specs.Option.{option_map}
 use Rattle.std.specs.Prelude.{slice_get}
-use Rattle.mesh_data.specs.declared.items.Item.{Item}
-use Rattle.mesh_data.specs.declared.items.Item.TheVariants.{Counts, Vertex, Face}
-use Rattle.mesh_data.specs.declared.items.MeshFault.{MeshFault}
-use Rattle.mesh_data.specs.declared.items.MeshFault.TheVariants.{Text}
-use Rattle.mesh_data.specs.declared.items.MeshWhy.TheVariants.{Head}
-use Rattle.mesh_data.specs.Reading.{Reading, Gives, IsComplete, fault_alone, nothing_more}
+use Rattle.mesh_items.specs.declared.items.Item.{Item}
+use Rattle.mesh_items.specs.declared.items.Item.TheVariants.{Counts, Vertex, Face}
+use Rattle.mesh_items.specs.declared.items.MeshFault.{MeshFault}
+use Rattle.mesh_items.specs.declared.items.MeshFault.TheVariants.{Text}
+use Rattle.mesh_items.specs.declared.items.MeshWhy.TheVariants.{Head}
+use Rattle.mesh_items.specs.Reading.{Reading, Gives, IsComplete, fault_alone, nothing_more}
 use Rattle.oemm_lines.specs.declared.parts.Line.{Line}
 use Rattle.oemm_lines.specs.Stream.{texts_of}
-use Rattle.mesh_reading.specs.Results.{IsOfText}
-use Rattle.mesh_reading.specs.Progress.{MayFollow, given_by}
+use Rattle.mesh_items.specs.Results.{IsOfText}
+use Rattle.mesh_items.specs.Progress.{MayFollow, given_by}
 use Rattle.off_reader.specs.declared.progress.Progress.{Progress}
 use Rattle.off_reader.specs.Grammar.{Filled, is_head, mesh_of, mesh_reading, from_head, from_counts, counts_of, body_of, item_of}
 use Rattle.off_reader.specs.Reader.{Pops, rest_of, stepped_reading, led_by, ended_by, counts_at, counts_before, body_at, item_before}

@@ -4,19 +4,19 @@ use Rattle.std.specs.Prelude.{slice_get}
 use Rattle.std.specs.Option.{option_map}
 use Rattle.std.proofs.lemmas.Bool.{false≢true, lt-ltb, le-ltb, lt-leb, le-leb}
 use Rattle.std.proofs.lemmas.Option.{slice_get-map, slice_get_past}
-use Rattle.mesh_data.specs.Octree.{on_grid, IsOnGrid}
+use Rattle.oemm_limits.specs.declared.TheConstants.{MOST_ITEMS}
+use Rattle.oemm_octree.specs.Octree.{on_grid, IsOnGrid}
 use Rattle.mesh_data.specs.Triangles.{IsProper, IsBelow}
-use Rattle.mesh_data.specs.Reading.{most_items}
-use Rattle.mesh_data.specs.declared.geometry.Point.{Point}
+use Rattle.oemm_octree.specs.declared.points.Point.{Point}
 use Rattle.mesh_data.specs.declared.geometry.Tri.{Tri}
-use Rattle.mesh_data.specs.declared.items.What.{What}
-use Rattle.mesh_data.specs.declared.items.What.TheVariants.{Vertices, Faces}
-use Rattle.mesh_data.specs.declared.items.MeshFault.{MeshFault}
-use Rattle.mesh_data.specs.declared.items.MeshFault.TheVariants.{Text, TooMany}
-use Rattle.mesh_data.specs.declared.items.MeshWhy.TheVariants.{Words, Number, NotInteger, OutOfRange, NotTriangle, BadIndex, Repeated}
+use Rattle.oemm_limits.specs.declared.what.What.{What}
+use Rattle.oemm_limits.specs.declared.what.What.TheVariants.{Vertices, Faces}
+use Rattle.mesh_items.specs.declared.items.MeshFault.{MeshFault}
+use Rattle.mesh_items.specs.declared.items.MeshFault.TheVariants.{Text, TooMany}
+use Rattle.mesh_items.specs.declared.items.MeshWhy.TheVariants.{Words, Number, NotInteger, OutOfRange, NotTriangle, BadIndex, Repeated}
 use Rattle.oemm_lines.specs.declared.parts.Line.{Line}
 use Rattle.oemm_lines.specs.Stream.{texts_of, word_in}
-use Rattle.mesh_reading.specs.Faces.{name_of, triangle_of}
+use Rattle.mesh_items.specs.Faces.{name_of, triangle_of}
 use Rattle.off_reader.specs.Grammar.{word_as, count_of, counts_of, limited, coordinate_of, vertex_of, corners_of, index_of, face_of}
 use Rattle.off_reader.specs.LineWords.{NumberStandsAt, NoNumberStandsAt, CoordinateStandsAt, GridStandsAt, NoCoordinateStandsAt, GridStandsBefore, IndexStandsAt, NoIndexStandsAt, IndicesStandBefore, IndicesStandOn, IsNoVertex}
 
@@ -43,11 +43,11 @@ count_number what place n l (word, stands, is) = rw (stands, is) refl
 pub count_long : (what : What) (place n : ℕ) (l : Line) → NumberStandsAt l place n → 2 ^ 64 ≤ n → count_at what place l ≡ Err (Text l.at Number)
 count_long what place n l stands long = count_number what place n l stands ∙ rw (le-leb (2 ^ 64) n long) refl
 
-pub count_many : (what : What) (place n : ℕ) (l : Line) → NumberStandsAt l place n → most_items < n → n < 2 ^ 64 → count_at what place l ≡ Err (TooMany what n)
-count_many what place n l stands many fits = count_number what place n l stands ∙ rw (lt-leb (2 ^ 64) n fits, lt-ltb most_items n many) refl
+pub count_many : (what : What) (place n : ℕ) (l : Line) → NumberStandsAt l place n → MOST_ITEMS < n → n < 2 ^ 64 → count_at what place l ≡ Err (TooMany what n)
+count_many what place n l stands many fits = count_number what place n l stands ∙ rw (lt-leb (2 ^ 64) n fits, lt-ltb MOST_ITEMS n many) refl
 
-pub count_read : (what : What) (place n : ℕ) (l : Line) → NumberStandsAt l place n → n ≤ most_items → count_at what place l ≡ Ok n
-count_read what place n l stands few = count_number what place n l stands ∙ rw (lt-leb (2 ^ 64) n (omega (arith, few)), le-ltb most_items n few) refl
+pub count_read : (what : What) (place n : ℕ) (l : Line) → NumberStandsAt l place n → n ≤ MOST_ITEMS → count_at what place l ≡ Ok n
+count_read what place n l stands few = count_number what place n l stands ∙ rw (lt-leb (2 ^ 64) n (omega (arith, few)), le-ltb MOST_ITEMS n few) refl
 
 -- the counts, once those of the words are known
 pub counts_read : (place v f : ℕ) (l : Line) → count_at Vertices place l ≡ Ok v → count_at Faces (place + 1) l ≡ Ok f → counts_of place l ≡ Ok (v, f)

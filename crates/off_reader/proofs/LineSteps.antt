@@ -2,20 +2,20 @@
 use Rattle.std.proofs.Common.{◌≡◌, ℕ, ◌+◌, true, false, List, [], length, Option, Some, None, IfSome, refl, arith}
 use Rattle.std.specs.Option.{option_map}
 use Rattle.fault_counts.specs.Told.{Told, IsAtEnd}
-use Rattle.mesh_data.specs.declared.items.MeshFault.TheVariants.{Text}
-use Rattle.mesh_data.specs.declared.items.MeshWhy.TheVariants.{Cut}
+use Rattle.mesh_items.specs.declared.items.MeshFault.TheVariants.{Text}
+use Rattle.mesh_items.specs.declared.items.MeshWhy.TheVariants.{Cut}
 use Rattle.oemm_lines.specs.declared.parts.Line.{Line}
 use Rattle.oemm_lines.specs.declared.parts.LineFault.{LineFault}
 use Rattle.oemm_lines.specs.declared.parts.LineFault.TheVariants as line
 use Rattle.oemm_lines.specs.Stream as stream
 use Rattle.oemm_lines.specs.Stream.{Flow, Stream, left_with, left_of, end_of, flow_left, IsDrained, StaysPut, SaysFault}
-use Rattle.mesh_reading.specs.Results.{IsOfText}
-use Rattle.mesh_reading.specs.Faults.{fault_of}
+use Rattle.mesh_items.specs.Results.{IsOfText}
+use Rattle.mesh_items.specs.Faults.{fault_of}
 use Rattle.off_reader.specs.Grammar.{Filled, has_words}
 use Rattle.off_reader.specs.Reader.{filled_by, filled_left, led_by, with_line, ended_by}
 
 -- a line was taken
-pub filled_line : (size old_size : Option ℕ) (old new : Option Flow) (l : Line) → size ≡ old_size → old ≡ option_map (stream.behind l) new → filled_by old_size old ≡ option_map (with_line l) (filled_by size new)
+pub filled_line : (size old_size : Option ℕ) (old new : Option Flow) (l : Line) → size ≡ old_size → old ≡ option_map (stream.line_then l) new → filled_by old_size old ≡ option_map (with_line l) (filled_by size new)
 filled_line None old_size old new l same led = rw (← same) refl
 filled_line (Some size) old_size old None l same led = rw (← same, led) refl
 filled_line (Some size) old_size old (Some flow) l same led = rw (← same, led) refl

@@ -4,7 +4,7 @@ use Rattle.std.specs.List.{position_or_len, before_first, after_first}
 use Rattle.std.specs.Option.{is_some}
 use Rattle.std.proofs.lemmas.List.{take_all, drop_all}
 use Rattle.memchr.specs.Find.{IsFirstByte}
-use Rattle.oemm_lines.specs.Numbers.{whole_of, integer_of, held_back}
+use Rattle.oemm_lines.specs.Numbers.{unsigned_of, integer_of, held_back}
 use Rattle.oemm_lines.proofs.PlaceLaws.{first_place, no_place}
 use Rattle.off_reader.specs.Numbers.{signed_of, is_exponent}
 
@@ -15,7 +15,7 @@ signed_of-empty [] empty = refl
 signed_of-empty (c ∷ cs) empty = absurd (omega arith)
 
 -- digits behind a plus
-pub signed_of-plus : (word : List ℕ) (c : ℕ) (cs : List ℕ) → word ≡ c ∷ cs → c ≡ 43 → signed_of word ≡ option_map pos (whole_of cs)
+pub signed_of-plus : (word : List ℕ) (c : ℕ) (cs : List ℕ) → word ≡ c ∷ cs → c ≡ 43 → signed_of word ≡ option_map pos (unsigned_of cs)
 unfolding signed_of
 signed_of-plus word c cs is plus = rw (is, plus) refl
 

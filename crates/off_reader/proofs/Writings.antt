@@ -2,21 +2,21 @@
 use Rattle.std.proofs.Common.{◌≡◌, ℕ, ◌+◌, ◌-◌, ◌<◌, ◌≤◌, Bool, true, false, List, [], ◌∷◌, ◌++◌, length, map, Some, None, Result, Ok, Err, refl, ap, sym, subst, ◌∙◌, ◌⊎◌, inl, inr, if◌then◌else◌, lt-ltb, le-ltb, append-nil, arith}
 use Rattle.std.specs.Prelude.{slice_get}
 use Rattle.std.proofs.lemmas.Bool.{cases_lt}
-use Rattle.mesh_data.specs.declared.geometry.Point.{Point}
+use Rattle.oemm_octree.specs.declared.points.Point.{Point}
 use Rattle.mesh_data.specs.declared.geometry.Tri.{Tri}
-use Rattle.mesh_data.specs.declared.items.Item.{Item}
-use Rattle.mesh_data.specs.declared.items.Item.TheVariants.{Counts, Vertex, Face}
-use Rattle.mesh_data.specs.declared.items.MeshFault.{MeshFault}
-use Rattle.mesh_data.specs.declared.items.MeshFault.TheVariants.{Text}
-use Rattle.mesh_data.specs.declared.items.MeshWhy.TheVariants.{Head}
-use Rattle.mesh_data.specs.Reading.{Reading, behind, fault_alone}
+use Rattle.mesh_items.specs.declared.items.Item.{Item}
+use Rattle.mesh_items.specs.declared.items.Item.TheVariants.{Counts, Vertex, Face}
+use Rattle.mesh_items.specs.declared.items.MeshFault.{MeshFault}
+use Rattle.mesh_items.specs.declared.items.MeshFault.TheVariants.{Text}
+use Rattle.mesh_items.specs.declared.items.MeshWhy.TheVariants.{Head}
+use Rattle.mesh_items.specs.Reading.{Reading, item_then, fault_alone}
 use Rattle.oemm_lines.specs.declared.parts.Word.{Word}
 use Rattle.oemm_lines.specs.declared.parts.Line.{Line}
 use Rattle.oemm_lines.specs.Stream.{texts_of, word_in}
-use Rattle.mesh_reading.specs.Results.{◌>>=◌}
+use Rattle.mesh_items.specs.Results.{◌>>=◌}
 use Rattle.off_reader.specs.Grammar.{mesh_of, from_head, from_counts, counted, counts_of, begun_by, body_of, item_of, vertex_of, face_of, is_head}
 use Rattle.off_reader.specs.Writes.{IsHead, CountsStandAt, WriteCounts, WriteVertices, WriteFaces, WriteMesh, stopped_reading}
-use Rattle.mesh_reading.specs.Progress.{reading_of}
+use Rattle.mesh_items.specs.Progress.{reading_of}
 use Rattle.off_reader.proofs.ItemSteps.{below_is_other, nothing_behind}
 
 -- the items before those of a reading
@@ -25,7 +25,7 @@ items_before items r = record { items = items ++ r.items; fault = r.fault }
 
 -- a vertex or a face is read
 read_first : (v f done : ℕ) (end : MeshFault) (l : Line) (lines : List Line) (item : Item) → done < v + f → item_of v done l ≡ Ok item →
-    body_of v f done end (l ∷ lines) ≡ behind item (body_of v f (done + 1) end lines)
+    body_of v f done end (l ∷ lines) ≡ item_then item (body_of v f (done + 1) end lines)
 unfolding body_of
 read_first v f done end l lines item below is = rw (below_is_other done (v + f) below, is) refl
 
@@ -49,7 +49,7 @@ vertices_read (l ∷ lines) [] v f done end rest write within = absurd write
 vertices_read (l ∷ lines) (p ∷ points) v f done end rest write within =
     let number : (done + 1) + length points ≡ done + length (p ∷ points) = omega arith in
     read_first v f done end l (lines ++ rest) (Vertex p) (omega (arith, within)) (vertex_item v done l p (omega (arith, within)) write.0)
-    ∙ ap (behind (Vertex p)) (vertices_read lines points v f (done + 1) end rest write.1 (omega (arith, within)))
+    ∙ ap (item_then (Vertex p)) (vertices_read lines points v f (done + 1) end rest write.1 (omega (arith, within)))
     ∙ ap (λ n. items_before (map (λ p. Vertex p) (p ∷ points)) (body_of v f n end rest)) number
 
 faces_read : (lines : List Line) (faces : List Tri) (v f n : ℕ) (end : MeshFault) (rest : List Line) → WriteFaces v n lines faces → n + length faces ≤ f →
@@ -62,8 +62,8 @@ faces_read (l ∷ lines) (t ∷ faces) v f n end rest write within =
     let next : (v + n) + 1 ≡ v + (n + 1) = omega arith in
     let number : v + (n + 1) + length faces ≡ v + n + length (t ∷ faces) = omega arith in
     read_first v f (v + n) end l (lines ++ rest) (Face t) (omega (arith, within)) (face_item v n l t write.0)
-    ∙ ap (λ m. behind (Face t) (body_of v f m end (lines ++ rest))) next
-    ∙ ap (behind (Face t)) (faces_read lines faces v f (n + 1) end rest write.1 (omega (arith, within)))
+    ∙ ap (λ m. item_then (Face t) (body_of v f m end (lines ++ rest))) next
+    ∙ ap (item_then (Face t)) (faces_read lines faces v f (n + 1) end rest write.1 (omega (arith, within)))
     ∙ ap (λ m. items_before (map (λ t. Face t) (t ∷ faces)) (body_of v f m end rest)) number
 
 -- the counts are read where they stand
@@ -105,7 +105,7 @@ mesh_read end lines points faces w =
     let counts : ℕ × ℕ = (length points, length faces) in
     ap (mesh_of end) w.whole
     ∙ head_read w.head counts end (w.vertex_lines ++ (w.face_lines ++ w.rest)) w.counted
-    ∙ ap (behind (Counts (length points) (length faces))) (body_read w.vertex_lines w.face_lines w.rest points faces end w.placed w.joined)
+    ∙ ap (item_then (Counts (length points) (length faces))) (body_read w.vertex_lines w.face_lines w.rest points faces end w.placed w.joined)
 
 -- what is read of a line's item, and that nothing but a fault comes where a line is missing
 body_step : (v f done : ℕ) (end : MeshFault) (l : Line) (lines : List Line) → done < v + f → body_of v f done end (l ∷ lines) ≡ begun_by (item_of v done l) (body_of v f (done + 1) end lines)
@@ -304,7 +304,7 @@ vertices_stop head vertex_lines rest v f points end fault written placed few sto
     let vertices = map (λ p. Vertex p) points in
     let first : 0 + length points ≡ length points = omega arith in
     head_read head (v, f) end (vertex_lines ++ rest) written
-    ∙ ap (behind (Counts v f))
+    ∙ ap (item_then (Counts v f))
     (vertices_read vertex_lines points v f 0 end rest placed (omega (arith, few))
     ∙ ap (λ n. items_before vertices (body_of v f n end rest)) first
     ∙ ap (items_before vertices) stop)
@@ -319,7 +319,7 @@ faces_stop head vertex_lines face_lines rest f points faces end fault written pl
     let first : 0 + v ≡ v + 0 = omega arith in
     let next : v + 0 + length faces ≡ v + length faces = omega arith in
     head_read head (v, f) end (vertex_lines ++ (face_lines ++ rest)) written
-    ∙ ap (behind (Counts v f))
+    ∙ ap (item_then (Counts v f))
     (vertices_read vertex_lines points v f 0 end (face_lines ++ rest) placed (omega arith)
     ∙ ap (λ n. items_before vertices (body_of v f n end (face_lines ++ rest))) first
     ∙ ap (items_before vertices) (faces_read face_lines faces v f 0 end rest joined (omega (arith, few))

@@ -4,25 +4,26 @@ use Rattle.std.specs.Prelude.{ℕ, ◌+◌, ◌-◌, ◌^◌, Bool, true, false,
 use Rattle.std.specs.Option.{ok_or}
 use Rattle.std.specs.List.{filter}
 use Rattle.std.specs.Str.{bytes_eq}
-use Rattle.mesh_data.specs.Octree.{on_grid}
-use Rattle.mesh_data.specs.declared.geometry.Point.{Point}
+use Rattle.oemm_limits.specs.declared.TheConstants.{MOST_ITEMS, MOST_MESH_BYTES}
+use Rattle.oemm_octree.specs.Octree.{on_grid}
+use Rattle.oemm_octree.specs.declared.points.Point.{Point}
 use Rattle.mesh_data.specs.declared.geometry.Tri.{Tri}
-use Rattle.mesh_data.specs.declared.items.Item.{Item}
-use Rattle.mesh_data.specs.declared.items.Item.TheVariants.{Counts, Vertex, Face}
-use Rattle.mesh_data.specs.declared.items.What.{What}
-use Rattle.mesh_data.specs.declared.items.What.TheVariants.{Vertices, Faces}
-use Rattle.mesh_data.specs.declared.items.MeshWhy.{MeshWhy}
-use Rattle.mesh_data.specs.declared.items.MeshWhy.TheVariants.{Head, Words, Number, NotInteger, OutOfRange, NotTriangle}
-use Rattle.mesh_data.specs.declared.items.MeshFault.{MeshFault}
-use Rattle.mesh_data.specs.declared.items.MeshFault.TheVariants.{Text, TooMany}
-use Rattle.mesh_data.specs.Reading.{Reading, behind, fault_alone, nothing_more, most_items}
+use Rattle.mesh_items.specs.declared.items.Item.{Item}
+use Rattle.mesh_items.specs.declared.items.Item.TheVariants.{Counts, Vertex, Face}
+use Rattle.oemm_limits.specs.declared.what.What.{What}
+use Rattle.oemm_limits.specs.declared.what.What.TheVariants.{Vertices, Faces}
+use Rattle.mesh_items.specs.declared.items.MeshWhy.{MeshWhy}
+use Rattle.mesh_items.specs.declared.items.MeshWhy.TheVariants.{Head, Words, Number, NotInteger, OutOfRange, NotTriangle}
+use Rattle.mesh_items.specs.declared.items.MeshFault.{MeshFault}
+use Rattle.mesh_items.specs.declared.items.MeshFault.TheVariants.{Text, TooMany}
+use Rattle.mesh_items.specs.Reading.{Reading, item_then, fault_alone, nothing_more}
 use Rattle.oemm_lines.specs.declared.parts.Word.{Word}
 use Rattle.oemm_lines.specs.declared.parts.Line.{Line}
-use Rattle.oemm_lines.specs.Numbers.{whole_of}
+use Rattle.oemm_lines.specs.Numbers.{unsigned_of}
 use Rattle.oemm_lines.specs.Stream.{Flow, texts_of, told_lines}
-use Rattle.mesh_reading.specs.Results.{◌>>=◌}
-use Rattle.mesh_reading.specs.Faults.{most_mesh_bytes, end_fault}
-use Rattle.mesh_reading.specs.Faces.{name_of, triangle_of}
+use Rattle.mesh_items.specs.Results.{◌>>=◌}
+use Rattle.mesh_items.specs.Faults.{end_fault}
+use Rattle.mesh_items.specs.Faces.{name_of, triangle_of}
 use Rattle.off_reader.specs.Numbers.{signed_of, coordinate_in, is_decimal}
 
 -- the word at this place of a line as it is read; a line in which none stands there has too few
@@ -33,13 +34,13 @@ word_as read place l = ok_or (slice_get (texts_of l) place) (Text l.at Words) >>
 abbrev pub limited : ℕ → What → ℕ → Result ℕ MeshFault
 limited at what n =
     if nat_le (2 ^ 64) n then Err (Text at Number)
-    else if nat_lt most_items n then Err (TooMany what n)
+    else if nat_lt MOST_ITEMS n then Err (TooMany what n)
     else Ok n
 
 -- the count that a word writes in digits
 unfoldable pub count_of : ℕ → What → List ℕ → Result ℕ MeshFault
 count_of at what word = do
-  n ← ok_or (whole_of word) (Text at Number)
+  n ← ok_or (unsigned_of word) (Text at Number)
   limited at what n
 
 -- the number of vertices at this place, and that of faces behind it; further words aren't looked at
@@ -70,7 +71,7 @@ vertex_of vertex l = do
 -- the number of corners of this face that a word writes in digits, which is to be three
 unfoldable pub corners_of : ℕ → ℕ → List ℕ → Result ℕ MeshFault
 corners_of at face word = do
-  n ← ok_or (whole_of word) (Text at Number)
+  n ← ok_or (unsigned_of word) (Text at Number)
   if n == 3 then Ok 3 else Err (Text at (NotTriangle face))
 
 -- what the index means that a word writes with an optional sign and digits
@@ -102,7 +103,7 @@ pub record Filled : Type 0 where
 
 -- the reading with this item at its front, or the fault in the item's place
 abbrev pub begun_by : Result Item MeshFault → Reading → Reading
-begun_by (Ok item) reading = behind item reading
+begun_by (Ok item) reading = item_then item reading
 begun_by (Err fault) reading = fault_alone fault
 
 -- the vertices and faces on these lines, behind so many of them; nothing behind the last one is looked at
@@ -114,7 +115,7 @@ body_of vertices faces done end (l ∷ ls) =
 
 -- the counts, and the vertices and faces behind them
 abbrev pub counted : Result (ℕ × ℕ) MeshFault → MeshFault → List Line → Reading
-counted (Ok counts) end ls = behind (Counts counts.0 counts.1) (body_of counts.0 counts.1 0 end ls)
+counted (Ok counts) end ls = item_then (Counts counts.0 counts.1) (body_of counts.0 counts.1 0 end ls)
 counted (Err fault) end ls = fault_alone fault
 
 -- a mesh from the line of its counts on
@@ -154,4 +155,4 @@ mesh_reading f = mesh_of f.end f.lines
 
 -- what all bytes of a source say
 abbrev pub off_reading : List ℕ → Reading
-off_reading bytes = mesh_reading (filled (length bytes) (told_lines true most_mesh_bytes 0 1 bytes))
+off_reading bytes = mesh_reading (filled (length bytes) (told_lines true MOST_MESH_BYTES 0 1 bytes))

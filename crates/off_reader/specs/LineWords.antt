@@ -1,18 +1,18 @@
 -- What the words of a line write.
 use Rattle.std.specs.Prelude.{◌≡◌, ℕ, ◌<◌, ◌≤◌, Bool, true, ℤ, pos, negsuc, List, slice_get, Some, None, ⊤}
-use Rattle.mesh_data.specs.Octree.{on_grid}
+use Rattle.oemm_octree.specs.Octree.{on_grid}
 use Rattle.oemm_lines.specs.declared.parts.Line.{Line}
-use Rattle.oemm_lines.specs.Numbers.{whole_of}
+use Rattle.oemm_lines.specs.Numbers.{unsigned_of}
 use Rattle.oemm_lines.specs.Stream.{texts_of}
 use Rattle.off_reader.specs.Numbers.{signed_of, coordinate_in, is_decimal}
 
 -- the word at this place is this number in digits
 abbrev pub NumberStandsAt : Line → ℕ → ℕ → Type 0
-NumberStandsAt l place n = (word : List ℕ) × (slice_get (texts_of l) place ≡ Some word) × (whole_of word ≡ Some n)
+NumberStandsAt l place n = (word : List ℕ) × (slice_get (texts_of l) place ≡ Some word) × (unsigned_of word ≡ Some n)
 
 -- the word at this place isn't digits alone
 abbrev pub NoNumberStandsAt : Line → ℕ → Type 0
-NoNumberStandsAt l place = (word : List ℕ) × (slice_get (texts_of l) place ≡ Some word) × (whole_of word ≡ None)
+NoNumberStandsAt l place = (word : List ℕ) × (slice_get (texts_of l) place ≡ Some word) × (unsigned_of word ≡ None)
 
 -- the word at this place is this whole number as a coordinate is written: a sign, digits, a point and zeros
 abbrev pub CoordinateStandsAt : Line → ℕ → ℤ → Type 0

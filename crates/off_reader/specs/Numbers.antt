@@ -3,12 +3,12 @@ use Rattle.std.specs.Prelude.{ℕ, ◌+◌, ◌==◌, ◌||◌, ◌&&◌, Bool, 
 use Rattle.std.specs.Option.{option_map}
 use Rattle.std.specs.List.{list_all, before_first, after_first, position_or_len}
 use Rattle.std.specs.Char.{is_ascii_digit}
-use Rattle.oemm_lines.specs.Numbers.{whole_of, integer_of}
+use Rattle.oemm_lines.specs.Numbers.{unsigned_of, integer_of}
 
 -- the number that a word writes with an optional sign and digits
 unfoldable pub signed_of : List ℕ → Option ℤ
 signed_of [] = None
-signed_of (c ∷ cs) = if c == 43 then option_map pos (whole_of cs) else integer_of (c ∷ cs)
+signed_of (c ∷ cs) = if c == 43 then option_map pos (unsigned_of cs) else integer_of (c ∷ cs)
 
 -- the bytes behind a sign, if one stands in front
 abbrev pub behind_sign : List ℕ → List ℕ

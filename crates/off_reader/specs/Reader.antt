@@ -2,14 +2,14 @@
 use Rattle.std.specs.Prelude.{◌≡◌, ℕ, ◌+◌, ◌≤◌, [], ◌∷◌, if◌then◌else◌, Option, Some, None, Result, Ok, Err}
 use Rattle.std.specs.Option.{option_map}
 use Rattle.fault_counts.specs.Told.{Told}
-use Rattle.mesh_data.specs.declared.items.Item.{Item}
-use Rattle.mesh_data.specs.declared.items.Item.TheVariants.{Counts}
-use Rattle.mesh_data.specs.declared.items.MeshFault.{MeshFault}
-use Rattle.mesh_data.specs.Reading.{Reading, Given, Gives, IsComplete, behind, fault_alone, nothing_more}
+use Rattle.mesh_items.specs.declared.items.Item.{Item}
+use Rattle.mesh_items.specs.declared.items.Item.TheVariants.{Counts}
+use Rattle.mesh_items.specs.declared.items.MeshFault.{MeshFault}
+use Rattle.mesh_items.specs.Reading.{Reading, Given, Gives, IsComplete, item_then, fault_alone, nothing_more}
 use Rattle.oemm_lines.specs.declared.parts.Line.{Line}
 use Rattle.oemm_lines.specs.Stream.{Flow, Stream, end_of, flow_left}
-use Rattle.mesh_reading.specs.Results.{IsOfText}
-use Rattle.mesh_reading.specs.Progress.{AreLimited, given_by}
+use Rattle.mesh_items.specs.Results.{IsOfText}
+use Rattle.mesh_items.specs.Progress.{AreLimited, given_by}
 use Rattle.off_reader.specs.declared.progress.Progress.{Progress}
 use Rattle.off_reader.specs.Grammar.{Filled, body_of, filled, from_counts, has_words, mesh_reading}
 
@@ -50,11 +50,11 @@ body_at vertices faces done f = body_of vertices faces done f.end f.lines
 
 -- the counts, and what stands behind them
 abbrev pub counts_before : ℕ × ℕ → Filled → Reading
-counts_before counts f = behind (Counts counts.0 counts.1) (body_at counts.0 counts.1 0 f)
+counts_before counts f = item_then (Counts counts.0 counts.1) (body_at counts.0 counts.1 0 f)
 
 -- a vertex or a face, and what stands behind it
 abbrev pub item_before : ℕ → ℕ → ℕ → Item → Filled → Reading
-item_before vertices faces done item f = behind item (body_at vertices faces (done + 1) f)
+item_before vertices faces done item f = item_then item (body_at vertices faces (done + 1) f)
 
 -- the reading of what is left, by the counts once they were read
 abbrev pub rest_by : Option (ℕ × ℕ) → ℕ → Filled → Reading
@@ -76,7 +76,7 @@ IsCounted (Some counts) done = AreLimited counts.0 counts.1 × (done ≤ counts.
 -- an item and what stands behind it, or nothing
 abbrev pub stepped_reading : Option (Item × Progress) → Filled → Reading
 stepped_reading None f = nothing_more
-stepped_reading (Some r) f = behind r.0 (rest_of r.1 f)
+stepped_reading (Some r) f = item_then r.0 (rest_of r.1 f)
 
 -- the item may be given next, or all that was counted is given
 abbrev pub GivesNext : Progress → Option (Item × Progress) → Type 0

@@ -1,14 +1,15 @@
 -- A mesh as the lines with words that write it.
 use Rattle.std.specs.Prelude.{◌≡◌, ℕ, ◌+◌, ◌<◌, ◌++◌, true, List, [], ◌∷◌, length, map, slice_get, Some, Ok, ⊤}
 use Rattle.std.specs.List.{filter}
-use Rattle.mesh_data.specs.declared.geometry.Point.{Point}
+use Rattle.oemm_limits.specs.declared.TheConstants.{MOST_MESH_BYTES}
+use Rattle.oemm_octree.specs.declared.points.Point.{Point}
 use Rattle.mesh_data.specs.declared.geometry.Tri.{Tri}
-use Rattle.mesh_data.specs.declared.items.Item.TheVariants.{Counts, Vertex, Face}
-use Rattle.mesh_data.specs.declared.items.MeshFault.{MeshFault}
-use Rattle.mesh_data.specs.Reading.{Reading}
+use Rattle.mesh_items.specs.declared.items.Item.TheVariants.{Counts, Vertex, Face}
+use Rattle.mesh_items.specs.declared.items.MeshFault.{MeshFault}
+use Rattle.mesh_items.specs.Reading.{Reading}
 use Rattle.oemm_lines.specs.declared.parts.Line.{Line}
 use Rattle.oemm_lines.specs.Stream.{texts_of, told_lines}
-use Rattle.mesh_reading.specs.Faults.{most_mesh_bytes, end_fault}
+use Rattle.mesh_items.specs.Faults.{end_fault}
 use Rattle.off_reader.specs.Grammar.{counts_of, vertex_of, face_of, is_head, has_words}
 
 -- the first word of the line is OFF
@@ -59,7 +60,7 @@ stopped_reading vertices faces points triangles fault =
 
 -- the lines with words of a mesh's bytes, and the fault that stands where a further one is wanted
 abbrev pub mesh_lines : List ℕ → List Line
-mesh_lines bytes = filter has_words (told_lines true most_mesh_bytes 0 1 bytes).lines
+mesh_lines bytes = filter has_words (told_lines true MOST_MESH_BYTES 0 1 bytes).lines
 
 abbrev pub mesh_end : List ℕ → MeshFault
-mesh_end bytes = end_fault (length bytes) (told_lines true most_mesh_bytes 0 1 bytes).fault
+mesh_end bytes = end_fault (length bytes) (told_lines true MOST_MESH_BYTES 0 1 bytes).fault

@@ -5,13 +5,12 @@ ghost use Rattle.oemm_lines.specs.Stream.{IsPlaced, UsesSource};
 ghost use Rattle.off_reader.specs.Grammar.{has_words};
 ghost use Rattle.off_reader.specs.Reader.{filled_left, led_by, with_line, ended_by, Pops};
 
-use mesh_data::{MeshFault, MeshWhy};
-use mesh_reading::{fault_at, fault_of_lines};
+use mesh_items::{MeshFault, MeshWhy, fault_at, fault_of_lines};
 use oemm_io::Source;
 use oemm_lines::{Line, Lines};
 
 /// The next line.
-#[tactic(auto, using(crate::proofs::LineSteps::filled_line, crate::proofs::LineSteps::filled_cut, crate::proofs::LineSteps::filled_fault, mesh_reading::proofs::Failures::failure_told_on))]
+#[tactic(auto, using(crate::proofs::LineSteps::filled_line, crate::proofs::LineSteps::filled_cut, crate::proofs::LineSteps::filled_fault, mesh_items::proofs::Failures::failure_told_on))]
 fn next_line<S: Source>(lines: &mut Lines<S>) -> Result<Line, MeshFault>
     requires { lines.old.fault ≡ None }
     ensures told { Pops with_line ended_by (filled_left S.left lines.old) result (filled_left S.left lines.new) }

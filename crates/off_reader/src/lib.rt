@@ -5,7 +5,7 @@
 mod body;
 mod filled;
 mod head;
-mod laws;
+pub mod laws;
 mod line;
 mod numbers;
 mod progress;
@@ -14,5 +14,4 @@ mod reader;
 mod tests;
 mod values;
 
-pub use laws::{counts_laws, face_laws, mesh_fault_laws, mesh_laws, vertex_laws};
 pub use reader::OffReader;

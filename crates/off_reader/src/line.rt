@@ -1,18 +1,19 @@
 //! What stands on a line.
 
 ghost use Rattle.std.specs.Prelude.{◌≡◌, ◌+◌, ◌≤◌, ◌<◌, slice_get, IfErr, IfOk, IfSome, MatchResult};
-ghost use Rattle.mesh_data.specs.Reading.{most_items};
 ghost use Rattle.mesh_data.specs.Triangles.{IsProper, IsBelow};
 ghost use Rattle.off_reader.specs.Grammar as grammar;
 ghost use Rattle.off_reader.specs.Grammar.{word_as};
 ghost use Rattle.oemm_lines.specs.Stream.{texts_of, IsPlaced};
-ghost use Rattle.mesh_reading.specs.Results.{IsOfText};
-ghost use Rattle.mesh_reading.specs.Progress.{AreLimited, MayFollow};
+ghost use Rattle.mesh_items.specs.Results.{IsOfText};
+ghost use Rattle.mesh_items.specs.Progress.{AreLimited, MayFollow};
 
 use super::values::{coordinate_of, corners_of, count_of, index_of};
-use mesh_data::{Item, MeshFault, MeshWhy, Point, Tri, What};
-use mesh_reading::{fault_at, triangle_of};
+use mesh_data::Tri;
+use mesh_items::{Item, MeshFault, MeshWhy, fault_at, triangle_of};
+use oemm_limits::{MOST_ITEMS, What};
 use oemm_lines::Line;
+use oemm_octree::Point;
 
 /// The word at this place of a line.
 fn word_at(line: &Line, place: usize) -> Result<&[u8], MeshFault>
@@ -37,7 +38,7 @@ fn count_at(line: &Line, place: usize, what: What) -> Result<u32, MeshFault>
     requires { IsPlaced line.now }
     ensures exact { result ≡ word_as (grammar.count_of line.now.at what) place line.now }
     ensures fault { IfErr result IsOfText }
-    ensures most { IfOk result (λ n. n ≤ most_items) }
+    ensures most { IfOk result (λ n. n ≤ MOST_ITEMS) }
 {
     count_of(word_at(line, place)?, line.at, what)
 }

@@ -7,10 +7,10 @@ ghost use Rattle.oemm_lines.specs.Numbers.{held_back};
 ghost use Rattle.off_reader.specs.Numbers as number;
 
 use memchr::{memchr, memchr2};
-use oemm_lines::{integer, whole};
+use oemm_lines::{integer, unsigned};
 
 /// The number as far as 2^62.
-fn held(value: u128) -> i64
+fn clamped(value: u128) -> i64
     ensures { result ≡ pos (min value (2 ^ 62)) }
 {
     value.min(1 << 62) as i64
@@ -23,7 +23,7 @@ pub fn signed(word: &[u8]) -> Option<i64>
 {
     let (first, digits) = word.split_first()?;
     if *first == b'+' {
-        Some(held(whole(digits)?))
+        Some(clamped(unsigned(digits)?))
     } else {
         integer(word)
     }

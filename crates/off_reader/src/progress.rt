@@ -2,13 +2,13 @@
 
 ghost use Rattle.std.specs.Prelude.{◌≡◌, None, Ok, IfOk, OnOk};
 ghost use Rattle.std.specs.Option.{option_map};
-ghost use Rattle.mesh_data.specs.Reading.{fault_alone, IsComplete};
+ghost use Rattle.mesh_items.specs.Reading.{fault_alone, IsComplete};
 ghost use Rattle.oemm_lines.specs.Stream.{UsesSource};
 ghost use Rattle.off_reader.specs.Reader.{filled_left, given_of, rest_of, stepped_reading, GivesNext, IsCounted, Pops};
 
 use super::body::next_item;
 use super::head::begin;
-use mesh_data::{Item, MeshFault};
+use mesh_items::{Item, MeshFault};
 use oemm_io::Source;
 use oemm_lines::Lines;
 
@@ -29,7 +29,8 @@ pub fn step<S: Source>(
 ) -> Result<Option<(Item, Progress)>, MeshFault>
     requires calm { lines.old.fault ≡ None }
     requires counted { IsCounted p.counts p.done }
-    ensures told { Pops stepped_reading fault_alone (option_map (rest_of p) (filled_left S.left lines.old)) result (filled_left S.left lines.new) }
+    ensures told { Pops stepped_reading fault_alone (option_map (rest_of p) (filled_left S.left lines.old)) result
+        (filled_left S.left lines.new) }
     ensures given { IfOk result (GivesNext p) }
     ensures complete { IsComplete (given_of p None) → (result ≡ Ok None) × (lines.new ≡ lines.old) }
     ensures calm { OnOk result (lines.new.fault ≡ None) }

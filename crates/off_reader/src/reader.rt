@@ -1,8 +1,9 @@
 //! A reader of a mesh.
 
 use super::progress::{Progress, step};
-use mesh_data::{Item, Items, MeshFault};
+use mesh_items::{Item, Items, MeshFault};
 use oemm_io::Source;
+use oemm_limits::MOST_MESH_BYTES;
 use oemm_lines::Lines;
 use std::marker::Model;
 
@@ -46,15 +47,15 @@ impl<S> OffReader<S> {
 impl<S: Source> OffReader<S> {
     ghost use Rattle.std.specs.Prelude.{◌≡◌, true};
     ghost use Rattle.std.specs.Option.{option_map};
-    ghost use Rattle.mesh_data.specs.Reading.{nothing_given};
+    ghost use Rattle.mesh_items.specs.Reading.{nothing_given};
     ghost use Rattle.off_reader.specs.Grammar.{off_reading};
     ghost use Rattle.oemm_lines.specs.Stream.{fresh_stream};
-    ghost use Rattle.mesh_reading.specs.Faults.{most_mesh_bytes};
     ghost use Rattle.off_reader.specs.Reader.{given_of, reading_left};
 
-    /// A reader of the mesh on these lines, of which none was asked for. They have comments, and a budget of 2^33 bytes.
+    /// A reader of the mesh on these lines, of which none was asked for. They have comments, and a budget of 2^33
+    /// bytes.
     pub fn new(lines: Lines<S>) -> OffReader<S>
-        requires { lines ≡ fresh_stream most_mesh_bytes true lines.source }
+        requires { lines ≡ fresh_stream MOST_MESH_BYTES true lines.source }
         ensures source { result.lines.source ≡ lines.source }
         ensures given { given_of result.progress result.fault ≡ nothing_given }
         ensures reading { reading_left S.left result ≡ option_map off_reading (S.left lines.source) }
@@ -74,7 +75,7 @@ impl<S: Source> Items for OffReader<S> {
     ghost use Rattle.std.specs.Prelude.{◌≡◌, None, Ok, Err, IfSome};
     ghost use Rattle.fault_counts.specs.Counts.{TellsFailure};
     ghost use Rattle.fault_counts.specs.Told.{TakesSome};
-    ghost use Rattle.mesh_data.specs.Reading.{IsComplete, Steps, Reads};
+    ghost use Rattle.mesh_items.specs.Reading.{IsComplete, Advances, Reads};
     ghost use Rattle.off_reader.specs.Reader.{given_of, reading_left};
 
     ghost given = { λ r. given_of r.progress r.fault };
@@ -91,7 +92,8 @@ impl<S: Source> Items for OffReader<S> {
     /// The first fault of the mesh. Once a fault was answered, each later call answers it again. Neither then nor
     /// behind the last face a line is asked for.
     fn next(&mut self) -> Result<Option<Item>, MeshFault>
-        ensures given { Steps (given_of self.old.progress self.old.fault) result (given_of self.new.progress self.new.fault) }
+        ensures given { Advances (given_of self.old.progress self.old.fault) result
+            (given_of self.new.progress self.new.fault) }
         ensures told { Reads (reading_left S.left self.old) result (reading_left S.left self.new) }
         ensures left { TakesSome (S.left self.old.lines.source) (S.left self.new.lines.source) }
         ensures cause { self.old.fault ≡ None →

@@ -1,14 +1,13 @@
 //! The counts, coordinates and indices that words write, and their faults.
 
 ghost use Rattle.std.specs.Prelude.{◌≡◌, ◌≤◌, ◌<◌, IfErr, IfOk, IfSome};
-ghost use Rattle.mesh_data.specs.Reading.{most_items};
 ghost use Rattle.off_reader.specs.Grammar as grammar;
-ghost use Rattle.mesh_reading.specs.Results.{IsOfText};
+ghost use Rattle.mesh_items.specs.Results.{IsOfText};
 
 use super::numbers::{coordinate, is_decimal, signed};
-use mesh_data::{MeshFault, MeshWhy, What};
-use mesh_reading::{MOST_ITEMS, fault_at, name_of};
-use oemm_lines::whole;
+use mesh_items::{MeshFault, MeshWhy, fault_at, name_of};
+use oemm_limits::{MOST_ITEMS, What};
+use oemm_lines::unsigned;
 
 /// A number that keeps the limits of a count.
 fn limited(n: u128, at: u64, what: What) -> Result<u32, MeshFault>
@@ -29,9 +28,9 @@ fn limited(n: u128, at: u64, what: What) -> Result<u32, MeshFault>
 pub fn count_of(word: &[u8], at: u64, what: What) -> Result<u32, MeshFault>
     ensures exact { result ≡ grammar.count_of at what word.now }
     ensures fault { IfErr result IsOfText }
-    ensures most { IfOk result (λ n. n ≤ most_items) }
+    ensures most { IfOk result (λ n. n ≤ MOST_ITEMS) }
 {
-    match whole(word) {
+    match unsigned(word) {
         Some(n) => limited(n, at, what),
         None => Err(fault_at(at, MeshWhy::Number)),
     }
@@ -69,7 +68,7 @@ pub fn corners_of(word: &[u8], at: u64, face: u32) -> Result<u32, MeshFault>
     ensures exact { result ≡ grammar.corners_of at face word.now }
     ensures fault { IfErr result IsOfText }
 {
-    match whole(word) {
+    match unsigned(word) {
         Some(3) => Ok(3),
         Some(_) => Err(fault_at(at, MeshWhy::NotTriangle { face })),
         None => Err(fault_at(at, MeshWhy::Number)),

@@ -1,7 +1,7 @@
 use Rattle.std.proofs.Common.{◌≡◌, Result, Err}
-use Rattle.mesh_data.specs.declared.items.MeshFault.{MeshFault}
-use Rattle.mesh_data.specs.declared.items.MeshFault.TheVariants.{Read, Text, TooMany, Memory}
-use Rattle.mesh_reading.specs.Results.{IsOfText}
+use Rattle.mesh_items.specs.declared.items.MeshFault.{MeshFault}
+use Rattle.mesh_items.specs.declared.items.MeshFault.TheVariants.{Read, Text, TooMany, Memory}
+use Rattle.mesh_items.specs.Results.{IsOfText}
 use Rattle.ply_header.specs.Results.{Answers}
 
 -- a fault of the text that is defined is answered

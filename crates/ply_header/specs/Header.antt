@@ -4,14 +4,14 @@ use Rattle.std.specs.Prelude.{◌≡◌, ◌⊎◌, ℕ, ◌^◌, Bool, true, fa
 use Rattle.std.specs.Option.{ok_or}
 use Rattle.std.specs.List.{list_any}
 use Rattle.std.specs.Str.{bytes_eq}
-use Rattle.mesh_data.specs.declared.items.What.TheVariants as limits
-use Rattle.mesh_data.specs.declared.items.ElementKind.TheVariants as element
-use Rattle.mesh_data.specs.declared.items.MeshWhy.{MeshWhy}
-use Rattle.mesh_data.specs.declared.items.MeshWhy.TheVariants.{Ascii, HeadLine, FaceFirst, Twice, FloatCoordinate, Kind, NoElement, NoProperty, Number}
-use Rattle.mesh_data.specs.declared.items.MeshFault.{MeshFault}
-use Rattle.mesh_data.specs.declared.items.MeshFault.TheVariants.{Text, TooMany}
-use Rattle.mesh_data.specs.Reading.{most_items}
-use Rattle.oemm_lines.specs.Numbers.{whole_of}
+use Rattle.oemm_limits.specs.declared.TheConstants.{MOST_ITEMS}
+use Rattle.oemm_limits.specs.declared.what.What.TheVariants as limits
+use Rattle.mesh_items.specs.declared.items.ElementKind.TheVariants as element
+use Rattle.mesh_items.specs.declared.items.MeshWhy.{MeshWhy}
+use Rattle.mesh_items.specs.declared.items.MeshWhy.TheVariants.{Ascii, HeadLine, FaceFirst, Twice, FloatCoordinate, Kind, NoElement, NoProperty, Number}
+use Rattle.mesh_items.specs.declared.items.MeshFault.{MeshFault}
+use Rattle.mesh_items.specs.declared.items.MeshFault.TheVariants.{Text, TooMany}
+use Rattle.oemm_lines.specs.Numbers.{unsigned_of}
 use Rattle.ply_header.specs.declared.layout.ByteOrder.{ByteOrder}
 use Rattle.ply_header.specs.declared.layout.ByteOrder.TheVariants.{Little, Big}
 use Rattle.ply_header.specs.declared.layout.ScalarType.{ScalarType}
@@ -26,7 +26,7 @@ use Rattle.ply_header.specs.declared.layout.Role.TheVariants.{Vertices, Faces, F
 use Rattle.ply_header.specs.declared.layout.Element.{Element}
 use Rattle.ply_header.specs.declared.layout.Layout.{Layout}
 use Rattle.ply_header.specs.declared.layout.Header.{Header}
-use Rattle.mesh_reading.specs.Results.{◌>>=◌, only_if}
+use Rattle.mesh_items.specs.Results.{◌>>=◌, only_if}
 use Rattle.ply_header.specs.Layout.{is_float, is_either, scalar_named, axis_named, names_corners, same_axis}
 
 -- nothing was declared yet
@@ -88,14 +88,14 @@ unless at (Some why) x = Err (Text at why)
 
 -- a count of so many records
 abbrev pub limited : ℕ → Role → ℕ → Result ℕ MeshFault
-limited at Vertices n = only_if (nat_le n most_items) n (TooMany limits.Vertices n)
-limited at Faces n = only_if (nat_le n most_items) n (TooMany limits.Faces n)
+limited at Vertices n = only_if (nat_le n MOST_ITEMS) n (TooMany limits.Vertices n)
+limited at Faces n = only_if (nat_le n MOST_ITEMS) n (TooMany limits.Faces n)
 limited at Foreign n = Ok n
 
 -- the count of records that a word writes
 unfoldable pub count_of : ℕ → Role → List ℕ → Result ℕ MeshFault
 count_of at role word = do
-  n ← ok_or (whole_of word) (Text at HeadLine)
+  n ← ok_or (unsigned_of word) (Text at HeadLine)
   m ← only_if (nat_lt n (2 ^ 64)) n (Text at Number)
   limited at role m
 

@@ -1,7 +1,7 @@
 //! The lines of a header that declare an element.
 
 ghost use Rattle.std.specs.Prelude.{◌≡◌, ℕ, ◌∷◌, ◌++◌, [], is_some, IfOk, IfErr, IsErr, IsErrOf, IsOkAnd};
-ghost use Rattle.mesh_reading.specs.Results.{IsOfText};
+ghost use Rattle.mesh_items.specs.Results.{IsOfText};
 ghost use Rattle.ply_header.specs.Results.{Answers};
 ghost use Rattle.ply_header.specs.Header as grammar;
 ghost use Rattle.ply_header.specs.Header.{KeepsElement, KeepsMore};
@@ -10,9 +10,10 @@ ghost use Rattle.ply_header.specs.Limits.{HasFew, IsLimited, IsStored};
 use super::layout::{Element, Header, Properties, Role};
 use super::names::role_named;
 use super::properties::{at_line_end, next_word};
-use mesh_data::{List, MeshFault, MeshWhy, What};
-use mesh_reading::{MOST_ITEMS, fault_at};
-use oemm_lines::{WordsLeft, whole};
+use mesh_items::{MeshFault, MeshWhy, fault_at};
+use oemm_limits::{MOST_ITEMS, What};
+use oemm_lines::{WordsLeft, unsigned};
+use oemm_lists::List;
 use std::alloc::Global;
 
 /// The list with an item more.
@@ -196,7 +197,7 @@ fn count_of(at: u64, role: Role, word: &[u8]) -> Result<u64, MeshFault>
     ensures few { IfOk result (HasFew role) }
     ensures fault { IfErr result IsOfText }
 {
-    let Some(number) = whole(word) else {
+    let Some(number) = unsigned(word) else {
         return Err(fault_at(at, MeshWhy::HeadLine));
     };
     let Ok(count) = u64::try_from(number) else {
@@ -227,7 +228,8 @@ pub fn with_element(
     requires { IsLimited header }
     ensures answers { Answers (grammar.with_element header at words.entry) result }
     ensures few { IfOk result IsLimited }
-    ensures memory { IsErrOf result MeshFault.Memory → IsOkAnd (grammar.with_element header at words.entry) (KeepsMore header) }
+    ensures memory { IsErrOf result MeshFault.Memory →
+        IsOkAnd (grammar.with_element header at words.entry) (KeepsMore header) }
 {
     let name = next_word(at, &mut words)?;
     let role = role_named(name);

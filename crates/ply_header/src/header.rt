@@ -1,7 +1,7 @@
 //! The lines of a header.
 
 ghost use Rattle.std.specs.Prelude.{◌≡◌, ◌∷◌, IfOk, IfErr, IsErrOf, IsOkAnd};
-ghost use Rattle.mesh_reading.specs.Results.{IsOfText};
+ghost use Rattle.mesh_items.specs.Results.{IsOfText};
 ghost use Rattle.ply_header.specs.Results.{Answers};
 ghost use Rattle.ply_header.specs.Header as grammar;
 ghost use Rattle.ply_header.specs.Header.{KeepsMore};
@@ -11,8 +11,7 @@ use super::elements::{finished, pushed, with_element};
 use super::layout::{Axis, ByteOrder, Element, Elements, Header, Layout, Property};
 use super::names::is_either;
 use super::properties::{at_line_end, has_axis, has_corners, next_word, property_of};
-use mesh_data::{ElementKind, MeshFault, MeshWhy};
-use mesh_reading::fault_at;
+use mesh_items::{ElementKind, MeshFault, MeshWhy, fault_at};
 use oemm_lines::WordsLeft;
 use std::alloc::Global;
 
@@ -87,7 +86,8 @@ fn with_property(mut header: Header, at: u64, words: WordsLeft<'_>) -> Result<He
     requires { IsLimited header }
     ensures answers { Answers (grammar.with_property header at words.entry) result }
     ensures few { IfOk result IsLimited }
-    ensures memory { IsErrOf result MeshFault.Memory → IsOkAnd (grammar.with_property header at words.entry) (KeepsMore header) }
+    ensures memory { IsErrOf result MeshFault.Memory →
+        IsOkAnd (grammar.with_property header at words.entry) (KeepsMore header) }
 {
     let Some(element) = header.last.take() else {
         return Err(fault_at(at, MeshWhy::HeadLine));
@@ -112,7 +112,8 @@ fn declared_by(
     requires { IsLimited header }
     ensures answers { Answers (grammar.declared_by header at word.now words.entry) result }
     ensures few { IfOk result IsLimited }
-    ensures memory { IsErrOf result MeshFault.Memory → IsOkAnd (grammar.declared_by header at word.now words.entry) (KeepsMore header) }
+    ensures memory { IsErrOf result MeshFault.Memory →
+        IsOkAnd (grammar.declared_by header at word.now words.entry) (KeepsMore header) }
 {
     if word == b"element".as_slice() {
         return with_element(alloc, header, at, words);
@@ -138,7 +139,8 @@ pub fn header_after(
     requires { IsLimited header }
     ensures answers { Answers (grammar.header_after header at words.entry) result }
     ensures few { IfOk result IsLimited }
-    ensures memory { IsErrOf result MeshFault.Memory → IsOkAnd (grammar.header_after header at words.entry) (KeepsMore header) }
+    ensures memory { IsErrOf result MeshFault.Memory →
+        IsOkAnd (grammar.header_after header at words.entry) (KeepsMore header) }
 {
     let Some(word) = words.next() else {
         return Ok(header);

@@ -1,6 +1,6 @@
 //! How the bytes of a PLY file are laid out.
 
-use mesh_data::List;
+use oemm_lists::List;
 
 /// In which order the bytes of a number stand.
 #[derive(Clone, Copy)]

@@ -1,4 +1,5 @@
-//! The header of a binary PLY file of either byte order: what its lines declare, and how the bytes behind it are laid out.
+//! The header of a binary PLY file of either byte order: what its lines declare, and how the bytes behind it are laid
+//! out.
 #![tactic(auto)]
 
 mod elements;

@@ -2,13 +2,12 @@
 
 ghost use Rattle.std.specs.Prelude.{◌≡◌, [], ◌∷◌, IfErr, IfOk};
 ghost use Rattle.std.specs.List.{list_any};
-ghost use Rattle.mesh_reading.specs.Results.{IsOfText};
+ghost use Rattle.mesh_items.specs.Results.{IsOfText};
 ghost use Rattle.ply_header.specs.Header as grammar;
 
 use super::layout::{Axis, Element, Property, PropertyType, Role, ScalarType};
 use super::names::{axis_named, is_float, names_corners, scalar_named};
-use mesh_data::{MeshFault, MeshWhy};
-use mesh_reading::fault_at;
+use mesh_items::{MeshFault, MeshWhy, fault_at};
 use oemm_lines::WordsLeft;
 
 /// The next word of a line that must have one.

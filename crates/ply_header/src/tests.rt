@@ -7,7 +7,7 @@ ghost use Rattle.ply_header.specs.Limits.{IsLimited};
 use super::{
     ByteOrder, Header, ScalarType, ends, header_after, layout_of, nothing_declared, size_of,
 };
-use mesh_data::{ElementKind, MeshFault, MeshWhy};
+use mesh_items::{ElementKind, MeshFault, MeshWhy};
 use oemm_io::MemSource;
 use oemm_lines::{Line, Lines};
 use std::alloc::{AllocError, Global};

@@ -1,13 +1,13 @@
 -- What a line of an element declares, and what is wrong with it.
 use Rattle.std.proofs.Common.{◌≡◌, ◌≢◌, ℕ, ◌^◌, ◌<◌, ◌≤◌, true, false, Bool, nat_lt, List, [], ◌∷◌, Some, None, Result, Ok, Err, codes, refl, ap, ◌∙◌}
 use Rattle.std.proofs.lemmas.Bool.{le-leb, le-ltb, lt-leb, lt-ltb}
-use Rattle.mesh_data.specs.Reading.{most_items}
-use Rattle.mesh_data.specs.declared.items.What.TheVariants as limits
-use Rattle.mesh_data.specs.declared.items.MeshWhy.TheVariants.{HeadLine, Number}
-use Rattle.mesh_data.specs.declared.items.MeshFault.{MeshFault}
-use Rattle.mesh_data.specs.declared.items.MeshFault.TheVariants.{Text, TooMany}
-use Rattle.mesh_reading.specs.Results.{◌>>=◌, only_if}
-use Rattle.oemm_lines.specs.Numbers.{whole_of}
+use Rattle.oemm_limits.specs.declared.TheConstants.{MOST_ITEMS}
+use Rattle.oemm_limits.specs.declared.what.What.TheVariants as limits
+use Rattle.mesh_items.specs.declared.items.MeshWhy.TheVariants.{HeadLine, Number}
+use Rattle.mesh_items.specs.declared.items.MeshFault.{MeshFault}
+use Rattle.mesh_items.specs.declared.items.MeshFault.TheVariants.{Text, TooMany}
+use Rattle.mesh_items.specs.Results.{◌>>=◌, only_if}
+use Rattle.oemm_lines.specs.Numbers.{unsigned_of}
 use Rattle.ply_header.specs.declared.layout.ByteOrder.{ByteOrder}
 use Rattle.ply_header.specs.declared.layout.Role.{Role}
 use Rattle.ply_header.specs.declared.layout.Role.TheVariants.{Vertices, Faces, Foreign}
@@ -65,59 +65,59 @@ pub no_count : (h : Header) (order : ByteOrder) (at : ℕ) (name : List ℕ) →
 no_count h order at name known may = line_by h order at name [] (Err (Text at HeadLine)) known may refl
 
 -- a count that isn't digits alone
-undigited : (at : ℕ) (role : Role) (word : List ℕ) → whole_of word ≡ None → count_of at role word ≡ Err (Text at HeadLine)
+undigited : (at : ℕ) (role : Role) (word : List ℕ) → unsigned_of word ≡ None → count_of at role word ≡ Err (Text at HeadLine)
 unfolding count_of
 undigited at role word none = rw none
 
 -- a count of digits, by whether it is held and by its limit
-count_by : (at n : ℕ) (role : Role) (word : List ℕ) (held : Bool) → whole_of word ≡ Some n → nat_lt n (2 ^ 64) ≡ held → count_of at role word ≡ (only_if held n (Text at Number) >>= limited at role)
+count_by : (at n : ℕ) (role : Role) (word : List ℕ) (held : Bool) → unsigned_of word ≡ Some n → nat_lt n (2 ^ 64) ≡ held → count_of at role word ≡ (only_if held n (Text at Number) >>= limited at role)
 unfolding count_of
 count_by at n role word held is small = rw (is, small)
 
 -- few enough records
 few_counted : (at n : ℕ) (role : Role) → HasFew role n → limited at role n ≡ Ok n
-few_counted at n Vertices few = rw (le-leb n most_items few)
-few_counted at n Faces few = rw (le-leb n most_items few)
+few_counted at n Vertices few = rw (le-leb n MOST_ITEMS few)
+few_counted at n Faces few = rw (le-leb n MOST_ITEMS few)
 few_counted at n Foreign few = refl
 
 -- the line of an element whose count is wrong
-pub no_digits : (h : Header) (order : ByteOrder) (at : ℕ) (name count : List ℕ) (words : List (List ℕ)) → h.order ≡ Some order → MayCome (role_named name) h → whole_of count ≡ None → header_after h at (element_line (name ∷ count ∷ words)) ≡ Err (Text at HeadLine)
+pub no_digits : (h : Header) (order : ByteOrder) (at : ℕ) (name count : List ℕ) (words : List (List ℕ)) → h.order ≡ Some order → MayCome (role_named name) h → unsigned_of count ≡ None → header_after h at (element_line (name ∷ count ∷ words)) ≡ Err (Text at HeadLine)
 no_digits h order at name count words known may none =
     line_by h order at name (count ∷ words) (Err (Text at HeadLine)) known may
     (ap (λ c. c >>= λ n. at_line_end at n words) (undigited at (role_named name) count none))
 
-pub too_great : (h : Header) (order : ByteOrder) (at n : ℕ) (name count : List ℕ) (words : List (List ℕ)) → h.order ≡ Some order → MayCome (role_named name) h → whole_of count ≡ Some n → 2 ^ 64 ≤ n → header_after h at (element_line (name ∷ count ∷ words)) ≡ Err (Text at Number)
+pub too_great : (h : Header) (order : ByteOrder) (at n : ℕ) (name count : List ℕ) (words : List (List ℕ)) → h.order ≡ Some order → MayCome (role_named name) h → unsigned_of count ≡ Some n → 2 ^ 64 ≤ n → header_after h at (element_line (name ∷ count ∷ words)) ≡ Err (Text at Number)
 too_great h order at n name count words known may is long =
     line_by h order at name (count ∷ words) (Err (Text at Number)) known may
     (ap (λ c. c >>= λ m. at_line_end at m words) (count_by at n (role_named name) count false is (le-ltb n (2 ^ 64) long)))
 
 -- the line of an element whose count is too great for its role
-many_by : (h : Header) (order : ByteOrder) (at n : ℕ) (name count : List ℕ) (words : List (List ℕ)) (fault : MeshFault) → h.order ≡ Some order → MayCome (role_named name) h → whole_of count ≡ Some n → n < 2 ^ 64 → limited at (role_named name) n ≡ Err fault →
+many_by : (h : Header) (order : ByteOrder) (at n : ℕ) (name count : List ℕ) (words : List (List ℕ)) (fault : MeshFault) → h.order ≡ Some order → MayCome (role_named name) h → unsigned_of count ≡ Some n → n < 2 ^ 64 → limited at (role_named name) n ≡ Err fault →
     header_after h at (element_line (name ∷ count ∷ words)) ≡ Err fault
 many_by h order at n name count words fault known may is held many =
     line_by h order at name (count ∷ words) (Err fault) known may
     (ap (λ c. c >>= λ m. at_line_end at m words) (count_by at n (role_named name) count true is (lt-ltb n (2 ^ 64) held) ∙ many))
 
-pub many_vertices : (h : Header) (order : ByteOrder) (at n : ℕ) (count : List ℕ) (words : List (List ℕ)) → h.order ≡ Some order → (HasVertex h → ⊥) → whole_of count ≡ Some n → n < 2 ^ 64 → most_items < n → header_after h at (element_line (codes "vertex" ∷ count ∷ words)) ≡ Err (TooMany limits.Vertices n)
+pub many_vertices : (h : Header) (order : ByteOrder) (at n : ℕ) (count : List ℕ) (words : List (List ℕ)) → h.order ≡ Some order → (HasVertex h → ⊥) → unsigned_of count ≡ Some n → n < 2 ^ 64 → MOST_ITEMS < n → header_after h at (element_line (codes "vertex" ∷ count ∷ words)) ≡ Err (TooMany limits.Vertices n)
 unfolding role_named
 many_vertices h order at n count words known never is held many =
-    many_by h order at n (codes "vertex") count words (TooMany limits.Vertices n) known never is held (rw (lt-leb n most_items many))
+    many_by h order at n (codes "vertex") count words (TooMany limits.Vertices n) known never is held (rw (lt-leb n MOST_ITEMS many))
 
-pub many_faces : (h : Header) (order : ByteOrder) (at n : ℕ) (count : List ℕ) (words : List (List ℕ)) → h.order ≡ Some order → HasVertex h → (HasFace h → ⊥) → whole_of count ≡ Some n → n < 2 ^ 64 → most_items < n → header_after h at (element_line (codes "face" ∷ count ∷ words)) ≡ Err (TooMany limits.Faces n)
+pub many_faces : (h : Header) (order : ByteOrder) (at n : ℕ) (count : List ℕ) (words : List (List ℕ)) → h.order ≡ Some order → HasVertex h → (HasFace h → ⊥) → unsigned_of count ≡ Some n → n < 2 ^ 64 → MOST_ITEMS < n → header_after h at (element_line (codes "face" ∷ count ∷ words)) ≡ Err (TooMany limits.Faces n)
 unfolding role_named
 many_faces h order at n count words known there never is held many =
-    many_by h order at n (codes "face") count words (TooMany limits.Faces n) known (there, never) is held (rw (lt-leb n most_items many))
+    many_by h order at n (codes "face") count words (TooMany limits.Faces n) known (there, never) is held (rw (lt-leb n MOST_ITEMS many))
 
 -- a count within its limits, and what stands behind it
-count_is : (at n : ℕ) (role : Role) (word : List ℕ) (words : List (List ℕ)) → whole_of word ≡ Some n → n < 2 ^ 64 → HasFew role n → last_count_of at role (word ∷ words) ≡ at_line_end at n words
+count_is : (at n : ℕ) (role : Role) (word : List ℕ) (words : List (List ℕ)) → unsigned_of word ≡ Some n → n < 2 ^ 64 → HasFew role n → last_count_of at role (word ∷ words) ≡ at_line_end at n words
 count_is at n role word words is held few =
     ap (λ c. c >>= λ m. at_line_end at m words)
     (count_by at n role word true is (lt-ltb n (2 ^ 64) held) ∙ few_counted at n role few)
 
-pub element_trailing : (h : Header) (order : ByteOrder) (at n : ℕ) (name count word : List ℕ) (words : List (List ℕ)) → h.order ≡ Some order → MayCome (role_named name) h → whole_of count ≡ Some n → n < 2 ^ 64 → HasFew (role_named name) n → header_after h at (element_line (name ∷ count ∷ word ∷ words)) ≡ Err (Text at HeadLine)
+pub element_trailing : (h : Header) (order : ByteOrder) (at n : ℕ) (name count word : List ℕ) (words : List (List ℕ)) → h.order ≡ Some order → MayCome (role_named name) h → unsigned_of count ≡ Some n → n < 2 ^ 64 → HasFew (role_named name) n → header_after h at (element_line (name ∷ count ∷ word ∷ words)) ≡ Err (Text at HeadLine)
 element_trailing h order at n name count word words known may is held few =
     line_by h order at name (count ∷ word ∷ words) (Err (Text at HeadLine)) known may (count_is at n (role_named name) count (word ∷ words) is held few)
 
-pub whole_element : (h : Header) (order : ByteOrder) (at n : ℕ) (name count : List ℕ) → h.order ≡ Some order → MayCome (role_named name) h → whole_of count ≡ Some n → n < 2 ^ 64 → HasFew (role_named name) n → header_after h at (element_line (name ∷ count ∷ [])) ≡ Ok (record (closed h) { last = Some (record { role = role_named name; count = n; properties = [] }) })
+pub whole_element : (h : Header) (order : ByteOrder) (at n : ℕ) (name count : List ℕ) → h.order ≡ Some order → MayCome (role_named name) h → unsigned_of count ≡ Some n → n < 2 ^ 64 → HasFew (role_named name) n → header_after h at (element_line (name ∷ count ∷ [])) ≡ Ok (record (closed h) { last = Some (record { role = role_named name; count = n; properties = [] }) })
 whole_element h order at n name count known may is held few =
     line_by h order at name (count ∷ []) (Ok n) known may (count_is at n (role_named name) count [] is held few)

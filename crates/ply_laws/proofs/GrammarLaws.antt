@@ -3,10 +3,10 @@ use Rattle.std.proofs.Common.{◌≡◌, ◌≢◌, ℕ, ◌+◌, ◌-◌, ◌<�
 use Rattle.std.specs.Option.{is_some}
 use Rattle.std.specs.Str.{bytes_eq}
 use Rattle.std.proofs.Math.Bool.{and-false}
-use Rattle.mesh_data.specs.Reading.{Reading, behind, nothing_more}
-use Rattle.mesh_data.specs.declared.items.Item.{Item}
-use Rattle.mesh_data.specs.declared.items.Item.TheVariants.{Counts}
-use Rattle.mesh_data.specs.declared.items.MeshFault.{MeshFault}
+use Rattle.mesh_items.specs.Reading.{Reading, item_then, nothing_more}
+use Rattle.mesh_items.specs.declared.items.Item.{Item}
+use Rattle.mesh_items.specs.declared.items.Item.TheVariants.{Counts}
+use Rattle.mesh_items.specs.declared.items.MeshFault.{MeshFault}
 use Rattle.oemm_lines.specs.declared.parts.Line.{Line}
 use Rattle.oemm_lines.specs.Stream.{texts_of}
 use Rattle.ply_header.specs.declared.layout.ByteOrder.{ByteOrder}
@@ -70,8 +70,8 @@ stand_items l m n done [] r s more stand =
 stand_items l m n done (i ∷ items) r s more stand =
     items_suc l m (length items + n) done r (omega (arith, more))
     ∙ ap (λ o. begun_by o (items_of l (length items + n) (done + 1))) stand.1
-    ∙ ap (behind i) (stand_items l (length items + n) n (done + 1) items stand.0 s refl stand.2)
-    ∙ ap (λ d. behind i (led_by items (items_of l n d s))) (let e : done + 1 + length items ≡ done + length (i ∷ items) = omega arith in e)
+    ∙ ap (item_then i) (stand_items l (length items + n) n (done + 1) items stand.0 s refl stand.2)
+    ∙ ap (λ d. item_then i (led_by items (items_of l n d s))) (let e : done + 1 + length items ≡ done + length (i ∷ items) = omega arith in e)
 
 items_none : (l : Layout) (done : ℕ) (r : Rest) → items_of l 0 done r ≡ nothing_more
 unfolding items_of
@@ -80,16 +80,16 @@ items_none l done r = refl
 pub items_whole : (l : Layout) (items : List Item) (r s : Rest) → Stand l 0 items r s → length items ≡ l.vertex.count + l.face.count → laid l r ≡ record { items = Counts l.vertex.count l.face.count ∷ items; fault = None }
 items_whole l items r s stand all =
     let counts = Counts l.vertex.count l.face.count in
-    ap (behind counts) (stand_items l (l.vertex.count + l.face.count) 0 0 items r s (omega (arith, all)) stand)
-    ∙ ap (λ q. behind counts (led_by items q)) (items_none l (0 + length items) s)
+    ap (item_then counts) (stand_items l (l.vertex.count + l.face.count) 0 0 items r s (omega (arith, all)) stand)
+    ∙ ap (λ q. item_then counts (led_by items q)) (items_none l (0 + length items) s)
     ∙ ap (λ (js : List Item). record { items = counts ∷ js; fault = None }) (append-nil items)
 
 pub items_stopped : (l : Layout) (items : List Item) (r s : Rest) (fault : MeshFault) → Stand l 0 items r s → length items < l.vertex.count + l.face.count → item_in l (length items) s ≡ Err fault → laid l r ≡ record { items = Counts l.vertex.count l.face.count ∷ items; fault = Some fault }
 items_stopped l items r s fault stand more stops =
     let counts = Counts l.vertex.count l.face.count in
     let left = l.vertex.count + l.face.count - length items in
-    ap (behind counts) (stand_items l (l.vertex.count + l.face.count) left 0 items r s (omega (arith, more)) stand)
-    ∙ ap (λ q. behind counts (led_by items q)) (items_suc l left (left - 1) (0 + length items) s (omega (arith, more)))
-    ∙ ap (λ d. behind counts (led_by items (begun_by (item_in l d s) (items_of l (left - 1) (0 + length items + 1))))) (let e : 0 + length items ≡ length items = omega arith in e)
-    ∙ ap (λ o. behind counts (led_by items (begun_by o (items_of l (left - 1) (0 + length items + 1))))) stops
+    ap (item_then counts) (stand_items l (l.vertex.count + l.face.count) left 0 items r s (omega (arith, more)) stand)
+    ∙ ap (λ q. item_then counts (led_by items q)) (items_suc l left (left - 1) (0 + length items) s (omega (arith, more)))
+    ∙ ap (λ d. item_then counts (led_by items (begun_by (item_in l d s) (items_of l (left - 1) (0 + length items + 1))))) (let e : 0 + length items ≡ length items = omega arith in e)
+    ∙ ap (λ o. item_then counts (led_by items (begun_by o (items_of l (left - 1) (0 + length items + 1))))) stops
     ∙ ap (λ (js : List Item). record { items = counts ∷ js; fault = Some fault }) (append-nil items)

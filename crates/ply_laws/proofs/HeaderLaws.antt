@@ -4,11 +4,11 @@ use Rattle.std.proofs.lemmas.Bool.{and_parts, false_from_ne_true}
 use Rattle.std.specs.Option.{is_some}
 use Rattle.std.specs.Str.{bytes_eq}
 use Rattle.std.proofs.lemmas.Slice.Eq.{bytes_eq-Decides}
-use Rattle.mesh_data.specs.declared.items.ElementKind.TheVariants as element
-use Rattle.mesh_data.specs.declared.items.MeshWhy.TheVariants.{Ascii, HeadLine, Twice, NoElement}
-use Rattle.mesh_data.specs.declared.items.MeshFault.{MeshFault}
-use Rattle.mesh_data.specs.declared.items.MeshFault.TheVariants.{Text}
-use Rattle.mesh_reading.specs.Results.{◌>>=◌}
+use Rattle.mesh_items.specs.declared.items.ElementKind.TheVariants as element
+use Rattle.mesh_items.specs.declared.items.MeshWhy.TheVariants.{Ascii, HeadLine, Twice, NoElement}
+use Rattle.mesh_items.specs.declared.items.MeshFault.{MeshFault}
+use Rattle.mesh_items.specs.declared.items.MeshFault.TheVariants.{Text}
+use Rattle.mesh_items.specs.Results.{◌>>=◌}
 use Rattle.ply_header.specs.declared.layout.ByteOrder.{ByteOrder}
 use Rattle.ply_header.specs.declared.layout.ByteOrder.TheVariants.{Little, Big}
 use Rattle.ply_header.specs.declared.layout.ScalarType.{ScalarType}

@@ -4,11 +4,11 @@ use Rattle.std.proofs.lemmas.Bool.{and_parts, false_from_ne_true}
 use Rattle.std.specs.Option.{is_some}
 use Rattle.std.specs.List.{list_any}
 use Rattle.std.specs.Str.{bytes_eq}
-use Rattle.mesh_data.specs.declared.items.MeshWhy.{MeshWhy}
-use Rattle.mesh_data.specs.declared.items.MeshWhy.TheVariants.{HeadLine, NoProperty}
-use Rattle.mesh_data.specs.declared.items.MeshFault.{MeshFault}
-use Rattle.mesh_data.specs.declared.items.MeshFault.TheVariants.{Text}
-use Rattle.mesh_reading.specs.Results.{◌>>=◌}
+use Rattle.mesh_items.specs.declared.items.MeshWhy.{MeshWhy}
+use Rattle.mesh_items.specs.declared.items.MeshWhy.TheVariants.{HeadLine, NoProperty}
+use Rattle.mesh_items.specs.declared.items.MeshFault.{MeshFault}
+use Rattle.mesh_items.specs.declared.items.MeshFault.TheVariants.{Text}
+use Rattle.mesh_items.specs.Results.{◌>>=◌}
 use Rattle.ply_header.specs.declared.layout.ByteOrder.{ByteOrder}
 use Rattle.ply_header.specs.declared.layout.Axis.TheVariants.{X, Y, Z}
 use Rattle.ply_header.specs.declared.layout.Property.{Property}

@@ -2,10 +2,10 @@
 use Rattle.std.proofs.Common.{◌≡◌, ℕ, ◌⊎◌, inl, inr, true, false, Bool, List, [], ◌∷◌, Option, Some, None, Ok, Err, if◌then◌else◌, codes, refl, ap, sym, subst, ◌∙◌}
 use Rattle.std.specs.Option.{is_some, is_none, ok_or}
 use Rattle.std.specs.Str.{bytes_eq}
-use Rattle.mesh_data.specs.declared.items.MeshWhy.{MeshWhy}
-use Rattle.mesh_data.specs.declared.items.MeshWhy.TheVariants.{FaceFirst, Twice, HeadLine}
-use Rattle.mesh_data.specs.declared.items.MeshFault.{MeshFault}
-use Rattle.mesh_data.specs.declared.items.MeshFault.TheVariants.{Text}
+use Rattle.mesh_items.specs.declared.items.MeshWhy.{MeshWhy}
+use Rattle.mesh_items.specs.declared.items.MeshWhy.TheVariants.{FaceFirst, Twice, HeadLine}
+use Rattle.mesh_items.specs.declared.items.MeshFault.{MeshFault}
+use Rattle.mesh_items.specs.declared.items.MeshFault.TheVariants.{Text}
 use Rattle.oemm_lines.specs.declared.parts.Line.{Line}
 use Rattle.oemm_lines.specs.Stream.{texts_of}
 use Rattle.ply_header.specs.declared.layout.ByteOrder.{ByteOrder}

@@ -1,9 +1,9 @@
 -- What a whole file says, by its lines.
 use Rattle.std.proofs.Common.{◌≡◌, ℕ, true, false, List, [], ◌∷◌, ◌++◌, Ok, Err, refl, ap, ◌∙◌}
-use Rattle.mesh_data.specs.Reading.{fault_alone}
-use Rattle.mesh_data.specs.declared.items.MeshWhy.TheVariants.{Head}
-use Rattle.mesh_data.specs.declared.items.MeshFault.{MeshFault}
-use Rattle.mesh_data.specs.declared.items.MeshFault.TheVariants.{Text}
+use Rattle.mesh_items.specs.Reading.{fault_alone}
+use Rattle.mesh_items.specs.declared.items.MeshWhy.TheVariants.{Head}
+use Rattle.mesh_items.specs.declared.items.MeshFault.{MeshFault}
+use Rattle.mesh_items.specs.declared.items.MeshFault.TheVariants.{Text}
 use Rattle.oemm_lines.specs.declared.parts.Line.{Line}
 use Rattle.oemm_lines.specs.Stream.{texts_of}
 use Rattle.ply_header.specs.declared.layout.Layout.{Layout}

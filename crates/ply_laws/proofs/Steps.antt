@@ -1,7 +1,7 @@
 -- Steps that give a value, one behind the other.
 use Rattle.std.proofs.Common.{◌≡◌, Result, Ok, Err, refl}
-use Rattle.mesh_data.specs.declared.items.MeshFault.{MeshFault}
-use Rattle.mesh_reading.specs.Results.{◌>>=◌}
+use Rattle.mesh_items.specs.declared.items.MeshFault.{MeshFault}
+use Rattle.mesh_items.specs.Results.{◌>>=◌}
 
 pub ok_is : {A : Type 0} (x y : A) → Ok x ≡ (let r : Result A MeshFault = Ok y in r) → x ≡ y
 ok_is x y e = cc

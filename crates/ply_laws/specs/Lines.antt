@@ -1,10 +1,11 @@
 -- A PLY file as its lines: the first, those that lead to what a header declares, and those behind them.
 use Rattle.std.specs.Prelude.{◌≡◌, ℕ, ◌+◌, true, false, List, [], ◌∷◌, ◌++◌, length, Ok}
-use Rattle.mesh_data.specs.declared.items.Item.{Item}
-use Rattle.mesh_data.specs.declared.items.MeshFault.{MeshFault}
+use Rattle.oemm_limits.specs.declared.TheConstants.{MOST_MESH_BYTES}
+use Rattle.mesh_items.specs.declared.items.Item.{Item}
+use Rattle.mesh_items.specs.declared.items.MeshFault.{MeshFault}
 use Rattle.oemm_lines.specs.declared.parts.Line.{Line}
 use Rattle.oemm_lines.specs.Stream.{texts_of, told_lines}
-use Rattle.mesh_reading.specs.Faults.{end_fault, most_mesh_bytes}
+use Rattle.mesh_items.specs.Faults.{end_fault}
 use Rattle.ply_header.specs.declared.layout.Layout.{Layout}
 use Rattle.ply_header.specs.declared.layout.Header.{Header}
 use Rattle.ply_header.specs.Header.{nothing_declared, header_after, ends, layout_of}
@@ -13,10 +14,10 @@ use Rattle.ply_reader.specs.Mesh.{behind_line, is_first, Stand}
 
 -- the lines of a file's bytes, and the fault that stands where a further one is wanted
 abbrev pub ply_lines : List ℕ → List Line
-ply_lines bytes = (told_lines false most_mesh_bytes 0 1 bytes).lines
+ply_lines bytes = (told_lines false MOST_MESH_BYTES 0 1 bytes).lines
 
 abbrev pub ply_end : List ℕ → MeshFault
-ply_end bytes = end_fault (length bytes) (told_lines false most_mesh_bytes 0 1 bytes).fault
+ply_end bytes = end_fault (length bytes) (told_lines false MOST_MESH_BYTES 0 1 bytes).fault
 
 -- these lines, of which none ends the header, lead from what one header declares to what another does
 unfoldable pub Lead : Header → List Line → Header → Type 0

@@ -1,6 +1,6 @@
 -- Where the numbers of a record stand, and the list of its indices.
 use Rattle.std.specs.Prelude.{◌≡◌, ℕ, ◌+◌, ℤ, List, [], ◌∷◌, Option, Some, None}
-use Rattle.mesh_data.specs.declared.geometry.Point.{Point}
+use Rattle.oemm_octree.specs.declared.points.Point.{Point}
 use Rattle.ply_header.specs.declared.layout.Axis.{Axis}
 use Rattle.ply_header.specs.declared.layout.Axis.TheVariants.{X, Y, Z}
 use Rattle.ply_header.specs.declared.layout.Property.{Property}

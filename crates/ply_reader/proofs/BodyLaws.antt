@@ -4,11 +4,11 @@ use Rattle.std.specs.Option.{option_map}
 use Rattle.std.proofs.lemmas.List.{drop_all}
 use Rattle.std.proofs.Math.Nat.{suc-mul}
 use Rattle.std.proofs.lemmas.Bool.Decides.{nat_tests}
+use Rattle.oemm_limits.specs.declared.TheConstants.{MOST_MESH_BYTES}
 use Rattle.fault_counts.specs.Told.{Told}
-use Rattle.mesh_data.specs.declared.items.MeshFault.{MeshFault}
+use Rattle.mesh_items.specs.declared.items.MeshFault.{MeshFault}
 use Rattle.oemm_lines.specs.Stream.{left_of}
-use Rattle.mesh_reading.specs.Results.{◌>>=◌}
-use Rattle.mesh_reading.specs.Faults.{most_mesh_bytes}
+use Rattle.mesh_items.specs.Results.{◌>>=◌}
 use Rattle.ply_header.specs.declared.layout.ByteOrder.{ByteOrder}
 use Rattle.ply_header.specs.declared.layout.ScalarType.{ScalarType}
 use Rattle.ply_header.specs.declared.layout.ScalarType.TheVariants.{I8, U8, I16, U16, I32, U32, F32, F64}
@@ -119,7 +119,7 @@ elements_done o es i old all = ap (λ fs. option_map (elements_passed o fs) old)
 pub record IsPassed (n : ℕ) (r s : Rest) : Type 0 where
   pub is : s ≡ forward n r
   pub there : n ≤ length r.bytes
-  pub limit : r.at + n ≤ most_mesh_bytes
+  pub limit : r.at + n ≤ MOST_MESH_BYTES
 
 record IsChosen (over cut : Bool) (r s : Rest) : Type 0 where
   within : over ≡ false
@@ -141,7 +141,7 @@ passed_is n r s passes =
 -- a number, and the properties behind it
 single_step :
     (size total : ℕ) (v : Values) (r : Rest) (next : Values → Rest → Result (Values × Rest) MeshFault) (o : Result Rest MeshFault) → passed size r ≡ o → size ≤ total →
-    ((s : Rest) → s.at ≤ most_mesh_bytes → next v s ≡ (passed (total - size) s >>= found v)) →
+    ((s : Rest) → s.at ≤ MOST_MESH_BYTES → next v s ≡ (passed (total - size) s >>= found v)) →
     ((o >>= found v) >>= λ w. next w.0 w.1) ≡ (passed total r >>= found v)
 single_step size total v r next (Err e) is fits same = ap (λ p. p >>= found v) (sym (passed-more size total r e fits is))
 single_step size total v r next (Ok s) is fits same =
@@ -155,7 +155,7 @@ single_step size total v r next (Ok s) is fits same =
 -- properties of which each is a number
 record IsFixed (ps : List Property) (k m : ℕ) : Type 0 where
   fits : k ≤ m
-  same : (rec : Record) (v : Values) (r : Rest) → r.at ≤ most_mesh_bytes → properties_in rec ps v r ≡ (passed (m - k) r >>= found v)
+  same : (rec : Record) (v : Values) (r : Rest) → r.at ≤ MOST_MESH_BYTES → properties_in rec ps v r ≡ (passed (m - k) r >>= found v)
 
 fixed_is : (ps : List Property) (k m : ℕ) → fixed_from k ps ≡ Some m → IsFixed ps k m
 unfolding fixed_from properties_in property_in
@@ -179,7 +179,7 @@ fixed_is (Many count item ∷ ps) k m is = absurd cc
 
 records_step :
     (size total : ℕ) (r : Rest) (next : Rest → Result Rest MeshFault) (o : Result Rest MeshFault) → passed size r ≡ o → size ≤ total →
-    ((s : Rest) → s.at ≤ most_mesh_bytes → next s ≡ passed (total - size) s) →
+    ((s : Rest) → s.at ≤ MOST_MESH_BYTES → next s ≡ passed (total - size) s) →
     (((o >>= found no_values) >>= λ w. Ok w.1) >>= next) ≡ passed total r
 records_step size total r next (Err e) is fits same = sym (passed-more size total r e fits is)
 records_step size total r next (Ok s) is fits same =
@@ -188,7 +188,7 @@ records_step size total r next (Ok s) is fits same =
     let limit = done.limit in
     same s (omega (arith, at, limit)) ∙ ap (passed (total - size)) done.is ∙ passed-split size total r fits done.there
 
-records_fixed : (o : ByteOrder) (ps : List Property) (size n : ℕ) (r : Rest) → IsFixed ps 0 size → r.at ≤ most_mesh_bytes → records_passed o ps n r ≡ passed (n * size) r
+records_fixed : (o : ByteOrder) (ps : List Property) (size n : ℕ) (r : Rest) → IsFixed ps 0 size → r.at ≤ MOST_MESH_BYTES → records_passed o ps n r ≡ passed (n * size) r
 unfolding records_passed record_passed
 records_fixed o ps size zero r fixed limit = sym (passed-none r limit) ∙ ap (λ n. passed n r) (let e : 0 ≡ 0 * size = omega arith in e)
 records_fixed o ps size (suc n) r fixed limit =
@@ -197,12 +197,12 @@ records_fixed o ps size (suc n) r fixed limit =
     ∙ records_step size (suc n * size) r (records_passed o ps n) (passed size r) refl (omega (arith, total))
     (λ s there. records_fixed o ps size n s fixed there ∙ ap (λ m. passed m s) (let e : n * size ≡ suc n * size - size = omega (arith, total) in e))
 
-pub fixed_records : (o : ByteOrder) (ps : List Property) (size n : ℕ) (r : Rest) → fixed_from 0 ps ≡ Some size → r.at ≤ most_mesh_bytes → records_passed o ps n r ≡ passed (n * size) r
+pub fixed_records : (o : ByteOrder) (ps : List Property) (size n : ℕ) (r : Rest) → fixed_from 0 ps ≡ Some size → r.at ≤ MOST_MESH_BYTES → records_passed o ps n r ≡ passed (n * size) r
 fixed_records o ps size n r is limit = records_fixed o ps size n r (fixed_is ps 0 size is) limit
 
 -- so many records at once, where no more bytes are counted than a number past the limit
 fixed_over :
-    (o : ByteOrder) (ps : List Property) (size n most at : ℕ) (ahead : List ℕ) (left : Told) → IsFixed ps 0 size → most_mesh_bytes < most → at ≤ most_mesh_bytes →
+    (o : ByteOrder) (ps : List Property) (size n most at : ℕ) (ahead : List ℕ) (left : Told) → IsFixed ps 0 size → MOST_MESH_BYTES < most → at ≤ MOST_MESH_BYTES →
     option_map (passed (min (n * size) most)) (option_map (rest_with (at - length ahead) ahead) left) ≡ option_map (records_passed o ps n) (option_map (rest_with (at - length ahead) ahead) left)
 fixed_over o ps size n most at ahead None fixed beyond limit = refl
 fixed_over o ps size n most at ahead (Some rest) fixed beyond limit =
@@ -210,6 +210,6 @@ fixed_over o ps size n most at ahead (Some rest) fixed beyond limit =
     ap Some (passed-capped (n * size) most r beyond ∙ sym (records_fixed o ps size n r fixed (omega arith)))
 
 pub fixed_passes :
-    {S : Type 0} (told : S → Told) (f : Feed S) (o : ByteOrder) (ps : List Property) (size n most : ℕ) → fixed_from 0 ps ≡ Some size → most_mesh_bytes < most → IsOpen f →
+    {S : Type 0} (told : S → Told) (f : Feed S) (o : ByteOrder) (ps : List Property) (size n most : ℕ) → fixed_from 0 ps ≡ Some size → MOST_MESH_BYTES < most → IsOpen f →
     option_map (passed (min (n * size) most)) (rest_left told f) ≡ option_map (records_passed o ps n) (rest_left told f)
 fixed_passes told f o ps size n most is beyond open_still = fixed_over o ps size n most f.stream.at f.ahead (left_of told f.stream) (fixed_is ps 0 size is) beyond open_still.1

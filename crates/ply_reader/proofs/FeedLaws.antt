@@ -3,38 +3,39 @@ use Rattle.std.proofs.Common.{◌≡◌, ℕ, ◌+◌, ◌-◌, ◌<◌, ◌≤�
 use Rattle.std.specs.Option.{option_map}
 use Rattle.std.proofs.lemmas.List.{drop-append-le, drop-drop}
 use Rattle.std.proofs.lemmas.Bool.Decides.{nat_tests}
+use Rattle.oemm_limits.specs.declared.TheConstants.{MOST_LINE_BYTES, MOST_MESH_BYTES}
 use Rattle.fault_counts.specs.Told.{Told, Takes, IsAtEnd}
-use Rattle.mesh_data.specs.declared.items.MeshFault.{MeshFault}
-use Rattle.mesh_data.specs.declared.items.MeshFault.TheVariants.{Text, TooMany}
-use Rattle.mesh_data.specs.declared.items.MeshWhy.TheVariants.{Cut}
-use Rattle.mesh_data.specs.declared.items.What.TheVariants.{MeshBytes}
+use Rattle.mesh_items.specs.declared.items.MeshFault.{MeshFault}
+use Rattle.mesh_items.specs.declared.items.MeshFault.TheVariants.{Text, TooMany}
+use Rattle.mesh_items.specs.declared.items.MeshWhy.TheVariants.{Cut}
+use Rattle.oemm_limits.specs.declared.what.What.TheVariants.{MeshBytes}
 use Rattle.oemm_lines.specs.declared.parts.LineFault.{LineFault}
 use Rattle.oemm_lines.specs.declared.parts.LineFault.TheVariants.{Bytes}
 use Rattle.oemm_lines.specs.declared.parts.LineFault.TheVariants as line
 use Rattle.oemm_lines.specs.declared.parts.Line.{Line}
-use Rattle.oemm_lines.specs.Stream.{Stream, Flow, Body, bodies, longest, line_fault, led_by, flow_from, left_of, GivesNext, Says, StaysPut, flow_of, flow_left, flow_by, fault_alone, nothing_more, told_lines}
+use Rattle.oemm_lines.specs.Stream.{Stream, Flow, Body, bodies, line_fault, led_by, flow_from, left_of, GivesNext, Says, StaysPut, flow_of, flow_left, flow_by, fault_alone, nothing_more, told_lines}
 use Rattle.oemm_lines.proofs.FlowLaws.{told_lines-none}
-use Rattle.mesh_reading.specs.Faults.{fault_of, most_mesh_bytes}
+use Rattle.mesh_items.specs.Faults.{fault_of}
 use Rattle.ply_reader.specs.Body.{Rest, forward, passed}
 use Rattle.ply_reader.specs.Feed.{Feed, rest_with, rest_left, failed, FailsBeyond, IsOpen}
 
 -- a byte past the limit is needed
-passed-past : (n : ℕ) (r : Rest) → most_mesh_bytes < r.at + min n (length r.bytes) → passed n r ≡ Err (TooMany MeshBytes most_mesh_bytes)
+passed-past : (n : ℕ) (r : Rest) → MOST_MESH_BYTES < r.at + min n (length r.bytes) → passed n r ≡ Err (TooMany MeshBytes MOST_MESH_BYTES)
 unfolding passed
 passed-past n r past = grind (arith, nat_tests)
 
 -- there are too few bytes
-passed-cut : (n : ℕ) (r : Rest) → r.at + length r.bytes ≤ most_mesh_bytes → length r.bytes < n → passed n r ≡ Err (Text (r.at + length r.bytes) Cut)
+passed-cut : (n : ℕ) (r : Rest) → r.at + length r.bytes ≤ MOST_MESH_BYTES → length r.bytes < n → passed n r ≡ Err (Text (r.at + length r.bytes) Cut)
 unfolding passed
 passed-cut n r within few = grind (arith, nat_tests)
 
 -- the bytes are there
-pub passed-on : (n : ℕ) (r : Rest) → n ≤ length r.bytes → r.at + n ≤ most_mesh_bytes → passed n r ≡ Ok (forward n r)
+pub passed-on : (n : ℕ) (r : Rest) → n ≤ length r.bytes → r.at + n ≤ MOST_MESH_BYTES → passed n r ≡ Ok (forward n r)
 unfolding passed
 passed-on n r there within = grind (arith, nat_tests)
 
 -- where the limit is reached and a byte is left, no more can be passed than were taken
-past_limit : (n at : ℕ) (ahead : List ℕ) (c : ℕ) (cs : List ℕ) → length ahead ≤ at → at ≡ most_mesh_bytes → length ahead < n → passed n (rest_with (at - length ahead) ahead (c ∷ cs)) ≡ Err (TooMany MeshBytes most_mesh_bytes)
+past_limit : (n at : ℕ) (ahead : List ℕ) (c : ℕ) (cs : List ℕ) → length ahead ≤ at → at ≡ MOST_MESH_BYTES → length ahead < n → passed n (rest_with (at - length ahead) ahead (c ∷ cs)) ≡ Err (TooMany MeshBytes MOST_MESH_BYTES)
 past_limit n at ahead c cs within full more =
     let size = length-append ahead (c ∷ cs) in
     passed-past n (rest_with (at - length ahead) ahead (c ∷ cs)) (omega (arith, size))
@@ -61,8 +62,8 @@ bytes_alone false false at budget fault short is = absurd cc
 -- where the budget is reached, no line is too long
 line_at_budget : (budget : ℕ) (b : Body) (fault : LineFault) → line_fault budget budget b ≡ Some fault → fault ≡ Bytes budget
 line_at_budget budget b fault is =
-    let short : nat_lt (budget + longest) budget ≡ false = grind (arith, nat_tests) in
-    bytes_alone _ _ budget budget fault (ap (λ t. nat_lt longest (length b.bytes) && t) short ∙ and_false _) is
+    let short : nat_lt (budget + MOST_LINE_BYTES) budget ≡ false = grind (arith, nat_tests) in
+    bytes_alone _ _ budget budget fault (ap (λ t. nat_lt MOST_LINE_BYTES (length b.bytes) && t) short ∙ and_false _) is
 
 led_at_budget : (budget : ℕ) (l : Line) (f : Flow) (first : Option LineFault) (fault : LineFault) → ((e : LineFault) → first ≡ Some e → e ≡ Bytes budget) → led_by first l f ≡ fault_alone fault → fault ≡ Bytes budget
 led_at_budget budget l f None fault bytes is = absurd (none_behind (ap (λ (g : Flow). g.lines) is))
@@ -88,13 +89,13 @@ nothing_shows s fault calm shows =
     none_is_some (ap (λ (f : Flow). f.fault) (sym quiet ∙ shows))
 
 limit_reached :
-    {S : Type 0} (s : Stream S) (n : ℕ) (fault : LineFault) (ahead : List ℕ) (left : Told) → s.fault ≡ None → length ahead ≤ s.at → s.at ≡ most_mesh_bytes → s.budget ≡ most_mesh_bytes →
+    {S : Type 0} (s : Stream S) (n : ℕ) (fault : LineFault) (ahead : List ℕ) (left : Told) → s.fault ≡ None → length ahead ≤ s.at → s.at ≡ MOST_MESH_BYTES → s.budget ≡ MOST_MESH_BYTES →
     length ahead < n → IfSome (option_map (flow_of s) left) (λ f. f ≡ fault_alone fault) →
     option_map (passed n) (option_map (rest_with (s.at - length ahead) ahead) left) ≡ option_map (failed (fault_of fault)) (option_map (rest_with (s.at - length ahead) ahead) left)
 limit_reached s n fault ahead None calm within full budget more shows = refl
 limit_reached s n fault ahead (Some []) calm within full budget more shows = absurd (nothing_shows s fault calm shows)
 limit_reached s n fault ahead (Some (c ∷ cs)) calm within full budget more shows =
-    let is : fault ≡ Bytes most_mesh_bytes = stream_at_budget s (c ∷ cs) fault calm (full ∙ sym budget) shows ∙ ap Bytes budget in
+    let is : fault ≡ Bytes MOST_MESH_BYTES = stream_at_budget s (c ∷ cs) fault calm (full ∙ sym budget) shows ∙ ap Bytes budget in
     ap Some (past_limit n s.at ahead c cs within full more ∙ ap (λ f. Err (fault_of f)) (sym is))
 
 -- and it is as it was behind the call
@@ -109,7 +110,7 @@ kept_fault told old new ahead fault stays =
 -- a fault of the line that would begin at the limit
 pub beyond_limit :
     {S : Type 0} (told : S → Told) (old new : Stream S) (ahead : List ℕ) (fault : LineFault) →
-    old.fault ≡ None → length ahead ≤ old.at → old.at ≡ most_mesh_bytes → old.budget ≡ most_mesh_bytes →
+    old.fault ≡ None → length ahead ≤ old.at → old.at ≡ MOST_MESH_BYTES → old.budget ≡ MOST_MESH_BYTES →
     GivesNext told old (Err fault) new → Says (flow_left told old) (Err fault) (flow_left told new) →
     FailsBeyond (length ahead) (rest_left told (record { stream = old; ahead = ahead })) (fault_of fault) (rest_left told (record { stream = new; ahead = ahead }))
 beyond_limit told old new ahead line.Read calm within full budget gives says n more = tt
@@ -140,7 +141,7 @@ refilled told old new now after more n grown place size taken =
 
 -- the source is at its end where more is needed
 cut_over :
-    (n at : ℕ) (ahead : List ℕ) (left : Told) → length ahead ≤ at → at ≤ most_mesh_bytes → length ahead < n → IsAtEnd left →
+    (n at : ℕ) (ahead : List ℕ) (left : Told) → length ahead ≤ at → at ≤ MOST_MESH_BYTES → length ahead < n → IsAtEnd left →
     option_map (passed n) (option_map (rest_with (at - length ahead) ahead) left) ≡ option_map (failed (Text at Cut)) (option_map (rest_with (at - length ahead) ahead) left)
 cut_over n at ahead None within limit more end = refl
 cut_over n at ahead (Some rest) within limit more end =
@@ -150,7 +151,7 @@ cut_over n at ahead (Some rest) within limit more end =
 
 pub cut_short :
     {S : Type 0} (told : S → Told) (f : Feed S) (old : Option Rest) (n : ℕ) →
-    length f.ahead ≤ f.stream.at → f.stream.at ≤ most_mesh_bytes → length f.ahead < n → IsAtEnd (left_of told f.stream) →
+    length f.ahead ≤ f.stream.at → f.stream.at ≤ MOST_MESH_BYTES → length f.ahead < n → IsAtEnd (left_of told f.stream) →
     rest_left told f ≡ old →
     option_map (passed n) old ≡ option_map (failed (Text f.stream.at Cut)) (rest_left told f)
 cut_short told f old n within limit more end same =
@@ -173,15 +174,15 @@ pub skipped_rest :
 skipped_rest told f k there within = skipped_over k f.stream.at f.ahead (left_of told f.stream) there within
 
 within_over :
-    (k at : ℕ) (ahead : List ℕ) (left : Told) → k ≤ length ahead → length ahead ≤ at → at ≤ most_mesh_bytes →
-    IfSome (option_map (rest_with (at - length ahead) ahead) left) (λ r. (r.at + k ≤ most_mesh_bytes) × (k ≤ length r.bytes))
+    (k at : ℕ) (ahead : List ℕ) (left : Told) → k ≤ length ahead → length ahead ≤ at → at ≤ MOST_MESH_BYTES →
+    IfSome (option_map (rest_with (at - length ahead) ahead) left) (λ r. (r.at + k ≤ MOST_MESH_BYTES) × (k ≤ length r.bytes))
 within_over k at ahead None there within limit = tt
 within_over k at ahead (Some rest) there within limit =
     let size = length-append ahead rest in (omega arith, omega (arith, size))
 
 pub skipped_within :
     {S : Type 0} (told : S → Told) (f : Feed S) (k : ℕ) → k ≤ length f.ahead → length f.ahead ≤ f.stream.at → IsOpen f →
-    IfSome (rest_left told f) (λ r. (r.at + k ≤ most_mesh_bytes) × (k ≤ length r.bytes))
+    IfSome (rest_left told f) (λ r. (r.at + k ≤ MOST_MESH_BYTES) × (k ≤ length r.bytes))
 skipped_within told f k there within open_still = within_over k f.stream.at f.ahead (left_of told f.stream) there within open_still.1
 
 -- what can't be passed over can't be with more behind it
@@ -190,15 +191,15 @@ unfolding passed
 passed-more m n r fault few fails = grind (arith, nat_tests)
 
 -- past the limit it makes no difference how many bytes are to be passed over
-pub passed-capped : (n most : ℕ) (r : Rest) → most_mesh_bytes < most → passed (min n most) r ≡ passed n r
+pub passed-capped : (n most : ℕ) (r : Rest) → MOST_MESH_BYTES < most → passed (min n most) r ≡ passed n r
 unfolding passed
 passed-capped n most r beyond = grind (arith, nat_tests)
 
 -- passing over bytes that are there, and then the others
 abbrev pub chosen : Bool → Bool → ℕ → Rest → Result Rest MeshFault
-chosen over cut end r = if over then Err (TooMany MeshBytes most_mesh_bytes) else if cut then Err (Text end Cut) else Ok r
+chosen over cut end r = if over then Err (TooMany MeshBytes MOST_MESH_BYTES) else if cut then Err (Text end Cut) else Ok r
 
-pub passed-chosen : (n : ℕ) (r : Rest) → passed n r ≡ chosen (nat_lt most_mesh_bytes (r.at + min n (length r.bytes))) (nat_lt (length r.bytes) n) (r.at + length r.bytes) (forward n r)
+pub passed-chosen : (n : ℕ) (r : Rest) → passed n r ≡ chosen (nat_lt MOST_MESH_BYTES (r.at + min n (length r.bytes))) (nat_lt (length r.bytes) n) (r.at + length r.bytes) (forward n r)
 unfolding passed
 passed-chosen n r = refl
 
@@ -214,22 +215,22 @@ passed-split k n r few there =
     let whole : k + (n - k) ≡ n = omega arith in
     let next = forward k r in
     passed-chosen (n - k) next
-    ∙ ap (λ m. chosen (nat_lt most_mesh_bytes m) (nat_lt (length next.bytes) (n - k)) (next.at + length next.bytes) (forward (n - k) next)) over
-    ∙ ap (λ m. chosen (nat_lt most_mesh_bytes (r.at + min n (length r.bytes))) (nat_lt m (n - k)) (next.at + length next.bytes) (forward (n - k) next)) size
-    ∙ ap (λ b. chosen (nat_lt most_mesh_bytes (r.at + min n (length r.bytes))) b (next.at + length next.bytes) (forward (n - k) next)) (nat_lt-shift (length r.bytes) n k few there)
-    ∙ ap (λ m. chosen (nat_lt most_mesh_bytes (r.at + min n (length r.bytes))) (nat_lt (length r.bytes) n) m (forward (n - k) next)) end
-    ∙ ap (λ p. chosen (nat_lt most_mesh_bytes (r.at + min n (length r.bytes))) (nat_lt (length r.bytes) n) (r.at + length r.bytes) (record { at = p; bytes = drop (n - k) (drop k r.bytes) })) place
-    ∙ ap (λ (bytes : List ℕ). chosen (nat_lt most_mesh_bytes (r.at + min n (length r.bytes))) (nat_lt (length r.bytes) n) (r.at + length r.bytes) (record { at = r.at + n; bytes = bytes })) (drop-drop (n - k) k r.bytes ∙ ap (λ m. drop m r.bytes) whole)
+    ∙ ap (λ m. chosen (nat_lt MOST_MESH_BYTES m) (nat_lt (length next.bytes) (n - k)) (next.at + length next.bytes) (forward (n - k) next)) over
+    ∙ ap (λ m. chosen (nat_lt MOST_MESH_BYTES (r.at + min n (length r.bytes))) (nat_lt m (n - k)) (next.at + length next.bytes) (forward (n - k) next)) size
+    ∙ ap (λ b. chosen (nat_lt MOST_MESH_BYTES (r.at + min n (length r.bytes))) b (next.at + length next.bytes) (forward (n - k) next)) (nat_lt-shift (length r.bytes) n k few there)
+    ∙ ap (λ m. chosen (nat_lt MOST_MESH_BYTES (r.at + min n (length r.bytes))) (nat_lt (length r.bytes) n) m (forward (n - k) next)) end
+    ∙ ap (λ p. chosen (nat_lt MOST_MESH_BYTES (r.at + min n (length r.bytes))) (nat_lt (length r.bytes) n) (r.at + length r.bytes) (record { at = p; bytes = drop (n - k) (drop k r.bytes) })) place
+    ∙ ap (λ (bytes : List ℕ). chosen (nat_lt MOST_MESH_BYTES (r.at + min n (length r.bytes))) (nat_lt (length r.bytes) n) (r.at + length r.bytes) (record { at = r.at + n; bytes = bytes })) (drop-drop (n - k) k r.bytes ∙ ap (λ m. drop m r.bytes) whole)
     ∙ sym (passed-chosen n r)
 
-pub passed-none : (r : Rest) → r.at ≤ most_mesh_bytes → passed 0 r ≡ Ok r
+pub passed-none : (r : Rest) → r.at ≤ MOST_MESH_BYTES → passed 0 r ≡ Ok r
 passed-none r limit = passed-on 0 r (omega arith) (omega arith) ∙ ap (λ p. Ok (record { at = p; bytes = r.bytes })) (let e : r.at + 0 ≡ r.at = omega arith in e)
 
-pub pass_step : (left k : ℕ) (old new : Option Rest) → k ≤ left → new ≡ option_map (forward k) old → IfSome old (λ r. (r.at + k ≤ most_mesh_bytes) × (k ≤ length r.bytes)) → option_map (passed (left - k)) new ≡ option_map (passed left) old
+pub pass_step : (left k : ℕ) (old new : Option Rest) → k ≤ left → new ≡ option_map (forward k) old → IfSome old (λ r. (r.at + k ≤ MOST_MESH_BYTES) × (k ≤ length r.bytes)) → option_map (passed (left - k)) new ≡ option_map (passed left) old
 pass_step left k None new few moved within = ap (option_map (passed (left - k))) moved
 pass_step left k (Some r) new few moved within = ap (option_map (passed (left - k))) moved ∙ ap Some (passed-split k left r few within.1)
 
-done_over : (at : ℕ) (ahead : List ℕ) (left : Told) → at ≤ most_mesh_bytes → option_map (passed 0) (option_map (rest_with (at - length ahead) ahead) left) ≡ option_map Ok (option_map (rest_with (at - length ahead) ahead) left)
+done_over : (at : ℕ) (ahead : List ℕ) (left : Told) → at ≤ MOST_MESH_BYTES → option_map (passed 0) (option_map (rest_with (at - length ahead) ahead) left) ≡ option_map Ok (option_map (rest_with (at - length ahead) ahead) left)
 done_over at ahead None limit = refl
 done_over at ahead (Some rest) limit = ap Some (passed-none (rest_with (at - length ahead) ahead rest) (omega arith))
 

@@ -2,13 +2,13 @@
 use Rattle.std.proofs.Common.{◌≡◌, ℕ, ◌+◌, ◌-◌, ◌<◌, min, List, Option, Some, None, refl, ap, ◌∙◌, add-one, arith}
 use Rattle.std.specs.Option.{option_map}
 use Rattle.fault_counts.specs.Told.{Told}
-use Rattle.mesh_data.specs.declared.items.Item.{Item}
-use Rattle.mesh_data.specs.declared.items.Item.TheVariants.{Counts, Vertex, Face}
-use Rattle.mesh_data.specs.declared.items.MeshFault.{MeshFault}
-use Rattle.mesh_data.specs.declared.items.MeshFault.TheVariants.{Read, Text, TooMany, Memory}
-use Rattle.mesh_data.specs.Reading.{Gives, behind, nothing_more}
+use Rattle.mesh_items.specs.declared.items.Item.{Item}
+use Rattle.mesh_items.specs.declared.items.Item.TheVariants.{Counts, Vertex, Face}
+use Rattle.mesh_items.specs.declared.items.MeshFault.{MeshFault}
+use Rattle.mesh_items.specs.declared.items.MeshFault.TheVariants.{Read, Text, TooMany, Memory}
+use Rattle.mesh_items.specs.Reading.{Gives, item_then, nothing_more}
 use Rattle.oemm_lines.specs.Stream.{left_of}
-use Rattle.mesh_reading.specs.Progress.{MayFollow, given_by}
+use Rattle.mesh_items.specs.Progress.{MayFollow, given_by}
 use Rattle.ply_header.specs.declared.layout.Layout.{Layout}
 use Rattle.ply_reader.specs.Body.{Rest, item_in}
 use Rattle.ply_reader.specs.Feed.{Feed, rest_with, rest_left, found, failed, Fails}
@@ -28,7 +28,7 @@ items_done l done (Some r) all = ap (λ k. Some (items_of l k done r)) (let e : 
 begun : (l : Layout) (done : ℕ) (r : Rest) → done < l.vertex.count + l.face.count → items_left l done r ≡ begun_by (item_in l done r) (items_left l (done + 1))
 begun l done r more = items_suc l (l.vertex.count + l.face.count - done) (l.vertex.count + l.face.count - (done + 1)) done r (omega arith)
 
-pub items_next : (l : Layout) (done : ℕ) (i : Item) (old new : Option Rest) → done < l.vertex.count + l.face.count → option_map (item_in l done) old ≡ option_map (found i) new → option_map (items_left l done) old ≡ option_map (behind i) (option_map (items_left l (done + 1)) new)
+pub items_next : (l : Layout) (done : ℕ) (i : Item) (old new : Option Rest) → done < l.vertex.count + l.face.count → option_map (item_in l done) old ≡ option_map (found i) new → option_map (items_left l done) old ≡ option_map (item_then i) (option_map (items_left l (done + 1)) new)
 items_next l done i None None more finds = refl
 items_next l done i None (Some s) more finds = absurd cc
 items_next l done i (Some r) None more finds = absurd cc

@@ -4,13 +4,13 @@ use Rattle.std.specs.Option.{option_map}
 use Rattle.std.specs.Result.{IsErrAnd}
 use Rattle.std.proofs.lemmas.List.{drop_at}
 use Rattle.fault_counts.specs.Told.{Told, IsAtEnd}
-use Rattle.mesh_data.specs.declared.items.MeshFault.{MeshFault}
-use Rattle.mesh_data.specs.declared.items.MeshFault.TheVariants.{Read, Text, TooMany, Memory}
-use Rattle.mesh_data.specs.declared.items.MeshWhy.TheVariants.{Head}
-use Rattle.mesh_data.specs.Reading.{Reading, fault_alone}
+use Rattle.mesh_items.specs.declared.items.MeshFault.{MeshFault}
+use Rattle.mesh_items.specs.declared.items.MeshFault.TheVariants.{Read, Text, TooMany, Memory}
+use Rattle.mesh_items.specs.declared.items.MeshWhy.TheVariants.{Head}
+use Rattle.mesh_items.specs.Reading.{Reading, fault_alone}
 use Rattle.oemm_lines.specs.declared.parts.Line.{Line}
-use Rattle.oemm_lines.specs.Stream.{Stream, Flow, behind, left_of, left_with, flow_of, texts_of, GivesLine, IsLineEnd, IsDrained}
-use Rattle.mesh_reading.specs.Faults.{end_fault}
+use Rattle.oemm_lines.specs.Stream.{Stream, Flow, line_then, left_of, left_with, flow_of, texts_of, GivesLine, IsLineEnd, IsDrained}
+use Rattle.mesh_items.specs.Faults.{end_fault}
 use Rattle.ply_header.specs.declared.layout.Layout.{Layout}
 use Rattle.ply_header.specs.declared.layout.Header.{Header}
 use Rattle.ply_header.specs.Results.{Answers}
@@ -62,12 +62,12 @@ given_at : {S : Type 0} (told : S → Told) (old : Stream S) (line : Line) (new 
 unfolding lined_over
 given_at told old line new g rest left =
     let stands = line_stands told new g.end rest left g.ends in
-    let first : flow_of old (line.bytes ++ g.end ++ rest) ≡ behind line (flow_of new rest) = g.first rest stands in
+    let first : flow_of old (line.bytes ++ g.end ++ rest) ≡ line_then line (flow_of new rest) = g.first rest stands in
     let parts = length-append (line.bytes ++ g.end) rest in
     let place = g.next_place in
     let size : old.at + length (line.bytes ++ g.end ++ rest) ≡ new.at + length rest = omega (arith, parts, place) in
     record {
-      lines = ap (λ f. lined_over f (old.at + length (line.bytes ++ g.end ++ rest))) first ∙ ap (lined_over (behind line (flow_of new rest))) size;
+      lines = ap (λ f. lined_over f (old.at + length (line.bytes ++ g.end ++ rest))) first ∙ ap (lined_over (line_then line (flow_of new rest))) size;
       behind = behind_line-at line old.at g.end rest stands (line_kind told new g.end g.ends)
           ∙ ap (λ at. record { at = at; bytes = rest }) (sym place);
     }

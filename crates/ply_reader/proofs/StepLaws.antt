@@ -3,15 +3,15 @@ use Rattle.std.proofs.Common.{◌≡◌, ℕ, ◌+◌, ◌-◌, ◌*◌, ◌≤�
 use Rattle.std.proofs.lemmas.List.{drop-append-le}
 use Rattle.std.specs.Option.{option_map}
 use Rattle.std.specs.Result.{IsErrAnd}
-use Rattle.mesh_data.specs.declared.items.MeshFault.{MeshFault}
-use Rattle.mesh_data.specs.declared.items.MeshFault.TheVariants.{Read, Text, TooMany, Memory}
+use Rattle.oemm_limits.specs.declared.TheConstants.{MOST_MESH_BYTES}
+use Rattle.mesh_items.specs.declared.items.MeshFault.{MeshFault}
+use Rattle.mesh_items.specs.declared.items.MeshFault.TheVariants.{Read, Text, TooMany, Memory}
 use Rattle.fault_counts.specs.Told.{Told}
 use Rattle.byteorder.specs.Endian.{twos_complement}
 use Rattle.byteorder.specs.Numbers.{little_from-append, big_from-append}
 use Rattle.oemm_lines.specs.Stream.{left_of}
-use Rattle.mesh_reading.specs.Results.{◌>>=◌, IsOfText}
-use Rattle.mesh_reading.specs.Faults.{most_mesh_bytes}
-use Rattle.mesh_reading.specs.Faces.{name_of, triangle_of}
+use Rattle.mesh_items.specs.Results.{◌>>=◌, IsOfText}
+use Rattle.mesh_items.specs.Faces.{name_of, triangle_of}
 use Rattle.ply_header.specs.declared.layout.ByteOrder.{ByteOrder}
 use Rattle.ply_header.specs.declared.layout.ByteOrder.TheVariants.{Little, Big}
 use Rattle.ply_header.specs.declared.layout.ScalarType.{ScalarType}
@@ -132,7 +132,7 @@ pure_finds defined (Err (TooMany what count)) now exact text = rw (← exact) re
 taken_over :
     {A B : Type 0} (size : ℕ) (value : List ℕ → A) (next : A → Rest → Result B MeshFault) (at : ℕ) (ahead : List ℕ) (left : Told) (new : Option Rest) →
     ((rest : List ℕ) → value (ahead ++ rest) ≡ value ahead) → new ≡ option_map (forward size) (option_map (rest_with at ahead) left) →
-    IfSome (option_map (rest_with at ahead) left) (λ r. (r.at + size ≤ most_mesh_bytes) × (size ≤ length r.bytes)) →
+    IfSome (option_map (rest_with at ahead) left) (λ r. (r.at + size ≤ MOST_MESH_BYTES) × (size ≤ length r.bytes)) →
     option_map (next (value ahead)) new ≡ option_map (λ r. passed size r >>= next (value r.bytes)) (option_map (rest_with at ahead) left)
 taken_over size value next at ahead None new front moved limit = ap (option_map (next (value ahead))) moved
 taken_over size value next at ahead (Some rest) new front moved limit =
@@ -143,7 +143,7 @@ taken_over size value next at ahead (Some rest) new front moved limit =
 pub taken_then :
     {S A B : Type 0} (told : S → Told) (f : Feed S) (size : ℕ) (value : List ℕ → A) (next : A → Rest → Result B MeshFault) (new : Option Rest) →
     ((rest : List ℕ) → value (f.ahead ++ rest) ≡ value f.ahead) → new ≡ option_map (forward size) (rest_left told f) →
-    IfSome (rest_left told f) (λ r. (r.at + size ≤ most_mesh_bytes) × (size ≤ length r.bytes)) →
+    IfSome (rest_left told f) (λ r. (r.at + size ≤ MOST_MESH_BYTES) × (size ≤ length r.bytes)) →
     option_map (next (value f.ahead)) new ≡ option_map (λ r. passed size r >>= next (value r.bytes)) (rest_left told f)
 taken_then told f size value next new front moved limit = taken_over size value next (f.stream.at - length f.ahead) f.ahead (left_of told f.stream) new front moved limit
 

@@ -1,20 +1,20 @@
 -- The records behind a PLY header, property by property. What is left of the file is its bytes from a place on.
 use Rattle.std.specs.Prelude.{ℕ, zero, suc, ◌+◌, ◌-◌, ◌*◌, ◌==◌, Bool, nat_lt, min, ℤ, pos, negsuc, List, [], ◌∷◌, length, drop, if◌then◌else◌, Option, Some, None, Result, Ok, Err}
 use Rattle.std.specs.Option.{ok_or}
+use Rattle.oemm_limits.specs.declared.TheConstants.{MOST_MESH_BYTES}
 use Rattle.byteorder.specs.Endian.{big_number, little_number, twos_complement}
 use Rattle.mesh_data.specs.Mesh.{origin}
-use Rattle.mesh_data.specs.Octree.{on_grid}
-use Rattle.mesh_data.specs.declared.geometry.Point.{Point}
+use Rattle.oemm_octree.specs.Octree.{on_grid}
+use Rattle.oemm_octree.specs.declared.points.Point.{Point}
 use Rattle.mesh_data.specs.declared.geometry.Tri.{Tri}
-use Rattle.mesh_data.specs.declared.items.Item.{Item}
-use Rattle.mesh_data.specs.declared.items.Item.TheVariants as item
-use Rattle.mesh_data.specs.declared.items.What.TheVariants.{MeshBytes}
-use Rattle.mesh_data.specs.declared.items.MeshWhy.TheVariants.{NoProperty, ListCount, OutOfRange, NotTriangle, Cut}
-use Rattle.mesh_data.specs.declared.items.MeshFault.{MeshFault}
-use Rattle.mesh_data.specs.declared.items.MeshFault.TheVariants.{Text, TooMany}
-use Rattle.mesh_reading.specs.Results.{◌>>=◌}
-use Rattle.mesh_reading.specs.Faults.{most_mesh_bytes}
-use Rattle.mesh_reading.specs.Faces.{name_of, triangle_of}
+use Rattle.mesh_items.specs.declared.items.Item.{Item}
+use Rattle.mesh_items.specs.declared.items.Item.TheVariants as item
+use Rattle.oemm_limits.specs.declared.what.What.TheVariants.{MeshBytes}
+use Rattle.mesh_items.specs.declared.items.MeshWhy.TheVariants.{NoProperty, ListCount, OutOfRange, NotTriangle, Cut}
+use Rattle.mesh_items.specs.declared.items.MeshFault.{MeshFault}
+use Rattle.mesh_items.specs.declared.items.MeshFault.TheVariants.{Text, TooMany}
+use Rattle.mesh_items.specs.Results.{◌>>=◌}
+use Rattle.mesh_items.specs.Faces.{name_of, triangle_of}
 use Rattle.ply_header.specs.declared.layout.ByteOrder.{ByteOrder}
 use Rattle.ply_header.specs.declared.layout.ByteOrder.TheVariants.{Little, Big}
 use Rattle.ply_header.specs.declared.layout.ScalarType.{ScalarType}
@@ -40,7 +40,7 @@ forward n r = record { at = r.at + n; bytes = drop n r.bytes }
 -- what is left behind so many bytes, which must be there and within the limit
 unfoldable pub passed : ℕ → Rest → Result Rest MeshFault
 passed n r =
-    if nat_lt most_mesh_bytes (r.at + min n (length r.bytes)) then Err (TooMany MeshBytes most_mesh_bytes)
+    if nat_lt MOST_MESH_BYTES (r.at + min n (length r.bytes)) then Err (TooMany MeshBytes MOST_MESH_BYTES)
     else if nat_lt (length r.bytes) n then Err (Text (r.at + length r.bytes) Cut)
     else Ok (forward n r)
 

@@ -1,16 +1,16 @@
 -- The bytes behind the lines of a header, as they are taken from the source block by block.
 use Rattle.std.specs.Prelude.{◌≡◌, ℕ, ◌+◌, ◌-◌, ◌≤◌, ◌<◌, List, [], ◌∷◌, ◌++◌, length, Option, Some, None, Result, Ok, Err, ⊤}
 use Rattle.std.specs.Option.{option_map}
+use Rattle.oemm_limits.specs.declared.TheConstants.{MOST_MESH_BYTES}
 use Rattle.fault_counts.specs.Told.{Told}
 use Rattle.oemm_lines.specs.Stream.{Stream, left_of}
-use Rattle.mesh_data.specs.declared.items.MeshFault.{MeshFault}
-use Rattle.mesh_data.specs.declared.items.MeshFault.TheVariants.{Read, Text, TooMany, Memory}
+use Rattle.mesh_items.specs.declared.items.MeshFault.{MeshFault}
+use Rattle.mesh_items.specs.declared.items.MeshFault.TheVariants.{Read, Text, TooMany, Memory}
 use Rattle.mesh_data.specs.declared.geometry.Tri.{Tri}
 use Rattle.mesh_data.specs.Triangles.{IsProper, IsBelow}
 use Rattle.ply_header.specs.declared.layout.Property.{Property}
 use Rattle.ply_header.specs.declared.layout.Property.TheVariants.{Single}
 use Rattle.ply_header.specs.Layout.{size_of}
-use Rattle.mesh_reading.specs.Faults.{most_mesh_bytes}
 use Rattle.ply_reader.specs.Body.{Rest, passed}
 
 -- a stream of lines, and the raw bytes that were taken from it and not yet given
@@ -20,7 +20,7 @@ pub record Feed (S : Type 0) : Type 0 where
 
 -- no fault was answered, and nothing past the limit was taken
 abbrev pub IsOpen : {S : Type 0} → Feed S → Type 0
-IsOpen f = (f.stream.fault ≡ None) × (f.stream.at ≤ most_mesh_bytes)
+IsOpen f = (f.stream.fault ≡ None) × (f.stream.at ≤ MOST_MESH_BYTES)
 
 abbrev pub rest_with : ℕ → List ℕ → List ℕ → Rest
 rest_with at ahead bytes = record { at = at; bytes = ahead ++ bytes }

@@ -1,15 +1,16 @@
 -- What a PLY file says, as a function of its bytes.
 use Rattle.std.specs.Prelude.{◌≡◌, ℕ, zero, suc, ◌+◌, ◌==◌, false, List, [], ◌∷◌, length, take, drop, codes, if◌then◌else◌, Result, Ok, Err, Bool}
 use Rattle.std.specs.Str.{bytes_eq}
-use Rattle.mesh_data.specs.Reading.{Reading, behind, fault_alone, nothing_more}
-use Rattle.mesh_data.specs.declared.items.Item.{Item}
-use Rattle.mesh_data.specs.declared.items.Item.TheVariants.{Counts}
-use Rattle.mesh_data.specs.declared.items.MeshWhy.TheVariants.{Head}
-use Rattle.mesh_data.specs.declared.items.MeshFault.{MeshFault}
-use Rattle.mesh_data.specs.declared.items.MeshFault.TheVariants.{Text}
+use Rattle.oemm_limits.specs.declared.TheConstants.{MOST_MESH_BYTES}
+use Rattle.mesh_items.specs.Reading.{Reading, item_then, fault_alone, nothing_more}
+use Rattle.mesh_items.specs.declared.items.Item.{Item}
+use Rattle.mesh_items.specs.declared.items.Item.TheVariants.{Counts}
+use Rattle.mesh_items.specs.declared.items.MeshWhy.TheVariants.{Head}
+use Rattle.mesh_items.specs.declared.items.MeshFault.{MeshFault}
+use Rattle.mesh_items.specs.declared.items.MeshFault.TheVariants.{Text}
 use Rattle.oemm_lines.specs.declared.parts.Line.{Line}
 use Rattle.oemm_lines.specs.Stream.{Flow, texts_of, told_lines}
-use Rattle.mesh_reading.specs.Faults.{end_fault, most_mesh_bytes}
+use Rattle.mesh_items.specs.Faults.{end_fault}
 use Rattle.ply_header.specs.declared.layout.Layout.{Layout}
 use Rattle.ply_header.specs.declared.layout.Header.{Header}
 use Rattle.ply_header.specs.Header.{nothing_declared, header_after, ends, layout_of}
@@ -21,7 +22,7 @@ begins_as_ply bytes = bytes_eq (take 3 bytes) (codes "ply")
 
 -- the reading that begins with this item, or the fault in its place
 abbrev pub begun_by : Result (Item × Rest) MeshFault → (Rest → Reading) → Reading
-begun_by (Ok item) more = behind item.0 (more item.1)
+begun_by (Ok item) more = item_then item.0 (more item.1)
 begun_by (Err fault) more = fault_alone fault
 
 -- so many vertices and faces, behind so many of them; nothing behind the last one is looked at
@@ -36,7 +37,7 @@ Stand l done (i ∷ items) r s = (mid : Rest) × (item_in l done r ≡ Ok (i, mi
 
 -- the counts, and the vertices and faces behind them
 abbrev pub laid : Layout → Rest → Reading
-laid l r = behind (Counts l.vertex.count l.face.count) (items_of l (l.vertex.count + l.face.count) 0 r)
+laid l r = item_then (Counts l.vertex.count l.face.count) (items_of l (l.vertex.count + l.face.count) 0 r)
 
 abbrev pub counted : Result Layout MeshFault → Rest → Reading
 counted (Ok l) r = laid l r
@@ -80,4 +81,4 @@ abbrev pub mesh_of : List ℕ → Flow → Reading
 mesh_of bytes told = from_first (end_fault (length bytes) told.fault) told.lines (record { at = 0; bytes = bytes })
 
 abbrev pub ply_reading : List ℕ → Reading
-ply_reading bytes = mesh_of bytes (told_lines false most_mesh_bytes 0 1 bytes)
+ply_reading bytes = mesh_of bytes (told_lines false MOST_MESH_BYTES 0 1 bytes)

@@ -2,14 +2,14 @@
 use Rattle.std.specs.Prelude.{◌≡◌, ℕ, ◌+◌, ◌-◌, ◌≤◌, ◌<◌, false, List, [], length, Option, Some, None, ⊤}
 use Rattle.std.specs.Option.{option_map}
 use Rattle.fault_counts.specs.Told.{Told}
-use Rattle.mesh_data.specs.declared.items.MeshFault.{MeshFault}
-use Rattle.mesh_data.specs.declared.items.MeshFault.TheVariants.{Read, Text, TooMany, Memory}
-use Rattle.mesh_data.specs.Reading.{Reading, Given, behind, fault_alone, nothing_more}
-use Rattle.mesh_data.specs.declared.items.Item.{Item}
+use Rattle.mesh_items.specs.declared.items.MeshFault.{MeshFault}
+use Rattle.mesh_items.specs.declared.items.MeshFault.TheVariants.{Read, Text, TooMany, Memory}
+use Rattle.mesh_items.specs.Reading.{Reading, Given, item_then, fault_alone, nothing_more}
+use Rattle.mesh_items.specs.declared.items.Item.{Item}
 use Rattle.oemm_lines.specs.declared.parts.Line.{Line}
 use Rattle.oemm_lines.specs.Stream.{Stream, left_of, flow_of}
-use Rattle.mesh_reading.specs.Faults.{end_fault}
-use Rattle.mesh_reading.specs.Progress.{MayFollow, given_by}
+use Rattle.mesh_items.specs.Faults.{end_fault}
+use Rattle.mesh_items.specs.Progress.{MayFollow, given_by}
 use Rattle.ply_header.specs.declared.layout.Layout.{Layout}
 use Rattle.ply_header.specs.declared.layout.Header.{Header}
 use Rattle.ply_header.specs.Limits.{IsLaidOut}
@@ -59,7 +59,7 @@ abbrev pub GivesNext : Layout → ℕ → Option Rest → Option Rest → Option
 GivesNext l done old new None = (done ≡ l.vertex.count + l.face.count) × (new ≡ old) × (option_map (items_left l done) old ≡ option_map (only nothing_more) old)
 GivesNext l done old new (Some i) =
     (done < l.vertex.count + l.face.count) × MayFollow l.vertex.count done i
-    × (option_map (items_left l done) old ≡ option_map (behind i) (option_map (items_left l (done + 1)) new))
+    × (option_map (items_left l done) old ≡ option_map (item_then i) (option_map (items_left l (done + 1)) new))
 
 -- a fault, whatever is left
 abbrev pub only_fault : {A : Type 0} → MeshFault → A → Reading

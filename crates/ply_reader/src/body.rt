@@ -1,18 +1,17 @@
 //! The records behind a header.
 
 ghost use Rattle.std.specs.Prelude.{◌≡◌, ◌+◌, ◌≤◌, ◌<◌, None, IfOk, OnOk};
-ghost use Rattle.mesh_data.specs.Reading.{most_items};
 ghost use Rattle.oemm_lines.specs.Stream.{UsesSource};
-ghost use Rattle.mesh_reading.specs.Progress.{MayFollow};
+ghost use Rattle.mesh_items.specs.Progress.{MayFollow};
 ghost use Rattle.ply_reader.specs.Body as grammar;
 ghost use Rattle.ply_reader.specs.Feed.{fixed_from, rest_left, Finds, IsOpen, Passes};
 
 use super::feed::Feed;
 use super::record::properties_in;
 use super::values::Record;
-use mesh_data::{Item, MeshFault, MeshWhy};
-use mesh_reading::fault_at;
+use mesh_items::{Item, MeshFault, MeshWhy, fault_at};
 use oemm_io::Source;
+use oemm_limits::MOST_ITEMS;
 use ply_header::{ByteOrder, Element, Layout, Property, size_of};
 
 /// How many bytes the properties have, where each of them is a number that isn't looked at, and else None.
@@ -38,7 +37,8 @@ fn record_passed<S: Source>(
 ) -> Result<(), MeshFault>
     requires open { IsOpen feed.old }
     requires size { fixed_from 0 properties.now ≡ None }
-    ensures passes { Passes (grammar.record_passed order properties.now) (rest_left S.left feed.old) result (rest_left S.left feed.new) }
+    ensures passes { Passes (grammar.record_passed order properties.now) (rest_left S.left feed.old) result
+        (rest_left S.left feed.new) }
     ensures open { OnOk result (IsOpen feed.new) }
     ensures uses { UsesSource S.left S.faults MeshFault.Read feed.old.stream feed.new.stream result }
 {
@@ -61,7 +61,8 @@ fn each_record_passed<S: Source>(
 ) -> Result<(), MeshFault>
     requires open { IsOpen feed.old }
     requires size { fixed_from 0 properties.now ≡ None }
-    ensures passes { Passes (grammar.records_passed order properties.now count) (rest_left S.left feed.old) result (rest_left S.left feed.new) }
+    ensures passes { Passes (grammar.records_passed order properties.now count) (rest_left S.left feed.old) result
+        (rest_left S.left feed.new) }
     ensures open { OnOk result (IsOpen feed.new) }
     ensures uses { UsesSource S.left S.faults MeshFault.Read feed.old.stream feed.new.stream result }
 {
@@ -78,7 +79,8 @@ fn records_passed<S: Source>(
     element: &Element,
 ) -> Result<(), MeshFault>
     requires { IsOpen feed.old }
-    ensures passes { Passes (grammar.records_passed order element.now.properties element.now.count) (rest_left S.left feed.old) result (rest_left S.left feed.new) }
+    ensures passes { Passes (grammar.records_passed order element.now.properties element.now.count)
+        (rest_left S.left feed.old) result (rest_left S.left feed.new) }
     ensures open { OnOk result (IsOpen feed.new) }
     ensures uses { UsesSource S.left S.faults MeshFault.Read feed.old.stream feed.new.stream result }
 {
@@ -96,7 +98,8 @@ fn elements_passed<S: Source>(
     elements: &[Element],
 ) -> Result<(), MeshFault>
     requires { IsOpen feed.old }
-    ensures passes { Passes (grammar.elements_passed order elements.now) (rest_left S.left feed.old) result (rest_left S.left feed.new) }
+    ensures passes { Passes (grammar.elements_passed order elements.now) (rest_left S.left feed.old) result
+        (rest_left S.left feed.new) }
     ensures open { OnOk result (IsOpen feed.new) }
     ensures uses { UsesSource S.left S.faults MeshFault.Read feed.old.stream feed.new.stream result }
 {
@@ -114,7 +117,8 @@ fn passed_if<S: Source>(
     elements: &[Element],
 ) -> Result<(), MeshFault>
     requires { IsOpen feed.old }
-    ensures passes { Passes (grammar.passed_if here order elements.now) (rest_left S.left feed.old) result (rest_left S.left feed.new) }
+    ensures passes { Passes (grammar.passed_if here order elements.now) (rest_left S.left feed.old) result
+        (rest_left S.left feed.new) }
     ensures open { OnOk result (IsOpen feed.new) }
     ensures uses { UsesSource S.left S.faults MeshFault.Read feed.old.stream feed.new.stream result }
 {
@@ -128,7 +132,8 @@ fn passed_if<S: Source>(
 #[tactic(auto, unfolding(crate::specs::Body::led_to))]
 fn led_to<S: Source>(feed: &mut Feed<S>, layout: &Layout, done: u64) -> Result<(), MeshFault>
     requires { IsOpen feed.old }
-    ensures passes { Passes (grammar.led_to layout.now done) (rest_left S.left feed.old) result (rest_left S.left feed.new) }
+    ensures passes { Passes (grammar.led_to layout.now done) (rest_left S.left feed.old) result
+        (rest_left S.left feed.new) }
     ensures open { OnOk result (IsOpen feed.new) }
     ensures uses { UsesSource S.left S.faults MeshFault.Read feed.old.stream feed.new.stream result }
 {
@@ -141,9 +146,10 @@ fn led_to<S: Source>(feed: &mut Feed<S>, layout: &Layout, done: u64) -> Result<(
 #[tactic(auto, unfolding(crate::specs::Body::vertex_in))]
 fn vertex_in<S: Source>(feed: &mut Feed<S>, layout: &Layout, number: u64) -> Result<Item, MeshFault>
     requires open { IsOpen feed.old }
-    requires few { layout.now.vertex.count ≤ most_items }
+    requires few { layout.now.vertex.count ≤ MOST_ITEMS }
     requires below { number < layout.now.vertex.count }
-    ensures finds { Finds (grammar.vertex_in layout.now number) (rest_left S.left feed.old) result (rest_left S.left feed.new) }
+    ensures finds { Finds (grammar.vertex_in layout.now number) (rest_left S.left feed.old) result
+        (rest_left S.left feed.new) }
     ensures may { IfOk result (MayFollow layout.now.vertex.count number) }
     ensures open { OnOk result (IsOpen feed.new) }
     ensures uses { UsesSource S.left S.faults MeshFault.Read feed.old.stream feed.new.stream result }
@@ -162,9 +168,10 @@ fn vertex_in<S: Source>(feed: &mut Feed<S>, layout: &Layout, number: u64) -> Res
 #[tactic(auto, unfolding(crate::specs::Body::face_in))]
 fn face_in<S: Source>(feed: &mut Feed<S>, layout: &Layout, number: u64) -> Result<Item, MeshFault>
     requires open { IsOpen feed.old }
-    requires few { layout.now.vertex.count ≤ most_items }
-    requires below { number < most_items }
-    ensures finds { Finds (grammar.face_in layout.now number) (rest_left S.left feed.old) result (rest_left S.left feed.new) }
+    requires few { layout.now.vertex.count ≤ MOST_ITEMS }
+    requires below { number < MOST_ITEMS }
+    ensures finds { Finds (grammar.face_in layout.now number) (rest_left S.left feed.old) result
+        (rest_left S.left feed.new) }
     ensures may { IfOk result (MayFollow layout.now.vertex.count (layout.now.vertex.count + number)) }
     ensures open { OnOk result (IsOpen feed.new) }
     ensures uses { UsesSource S.left S.faults MeshFault.Read feed.old.stream feed.new.stream result }
@@ -190,10 +197,11 @@ fn face_in<S: Source>(feed: &mut Feed<S>, layout: &Layout, number: u64) -> Resul
 #[tactic(auto, unfolding(crate::specs::Body::item_in))]
 pub fn item_in<S: Source>(feed: &mut Feed<S>, layout: &Layout, done: u64) -> Result<Item, MeshFault>
     requires open { IsOpen feed.old }
-    requires vertices { layout.now.vertex.count ≤ most_items }
-    requires faces { layout.now.face.count ≤ most_items }
+    requires vertices { layout.now.vertex.count ≤ MOST_ITEMS }
+    requires faces { layout.now.face.count ≤ MOST_ITEMS }
     requires more { done < layout.now.vertex.count + layout.now.face.count }
-    ensures finds { Finds (grammar.item_in layout.now done) (rest_left S.left feed.old) result (rest_left S.left feed.new) }
+    ensures finds { Finds (grammar.item_in layout.now done) (rest_left S.left feed.old) result
+        (rest_left S.left feed.new) }
     ensures may { IfOk result (MayFollow layout.now.vertex.count done) }
     ensures open { OnOk result (IsOpen feed.new) }
     ensures uses { UsesSource S.left S.faults MeshFault.Read feed.old.stream feed.new.stream result }

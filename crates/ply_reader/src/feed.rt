@@ -4,9 +4,9 @@ ghost use Rattle.std.specs.Prelude.{◌≡◌, ◌+◌, ◌-◌, ◌<◌, ◌≤
 ghost use Rattle.fault_counts.specs.Told.{Takes};
 ghost use Rattle.oemm_lines.specs.Stream.{left_of, IsDrained, UsesSource};
 
-use mesh_data::{MeshFault, MeshWhy};
-use mesh_reading::{MOST_MESH_BYTES, fault_at, fault_of_lines};
+use mesh_items::{MeshFault, MeshWhy, fault_at, fault_of_lines};
 use oemm_io::Source;
+use oemm_limits::MOST_MESH_BYTES;
 use oemm_lines::{Line, LineFault, Lines};
 use std::marker::Model;
 
@@ -25,12 +25,14 @@ pub struct Feed<S> {
 impl<S> Model for Feed<S> {
     ghost use Rattle.std.specs.Prelude.{◌≡◌, ◌≤◌, length, slice_range};
     ghost use Rattle.ply_reader.specs.Feed.{Feed};
+    ghost use Rattle.ply_reader.specs.declared.feed.TheConstants.{BLOCK};
+    ghost use Rattle.oemm_limits.specs.declared.TheConstants.{MOST_MESH_BYTES};
 
     ghost Value = { Feed S };
 
     ghost view = { λ a. record { stream = a.lines; ahead = slice_range a.buffer a.from a.to } };
 
-    ghost invariant = { λ a. (a.from ≤ a.to) × (a.to ≤ 4096) × (length (slice_range a.buffer a.from a.to) ≤ a.lines.at) × (a.lines.budget ≡ 8589934592) };
+    ghost invariant = { λ a. (a.from ≤ a.to) × (a.to ≤ BLOCK) × (length (slice_range a.buffer a.from a.to) ≤ a.lines.at) × (a.lines.budget ≡ MOST_MESH_BYTES) };
 }
 
 /// Moves a part of the buffer to its front, and answers how long it is.
@@ -57,7 +59,8 @@ fn raw_into<S: Source>(
     ensures front { take at buffer.new ≡ take at buffer.old }
     ensures calm { OnOk result (lines.new.fault ≡ None) }
     ensures size { IfOk result (λ n. n ≤ size) }
-    ensures taken { IfOk result (λ n. Takes (left_of S.left lines.old) (left_of S.left lines.new) (slice_range buffer.new at (at + n))) }
+    ensures taken { IfOk result
+        (λ n. Takes (left_of S.left lines.old) (left_of S.left lines.new) (slice_range buffer.new at (at + n))) }
     ensures part { IfOk result (λ n. length (slice_range buffer.new at (at + n)) ≡ n) }
     ensures end { IfOk result (λ n. n < size → IsDrained S.left lines.new) }
     ensures place { IfOk result (λ n. lines.new.at ≡ lines.old.at + n) }
@@ -74,7 +77,7 @@ impl<S> Feed<S> {
 
     /// The bytes behind the lines that were read.
     pub fn new(lines: Lines<S>) -> Feed<S>
-        requires { lines.budget ≡ 8589934592 }
+        requires { lines.budget ≡ MOST_MESH_BYTES }
         ensures { result ≡ record { stream = lines; ahead = [] } }
     {
         Feed {
@@ -141,7 +144,8 @@ impl<S: Source> Feed<S> {
         requires { count ≤ length self.old.ahead }
         ensures ahead { self.new ≡ record self.old { ahead = drop count self.old.ahead } }
         ensures rest { rest_left S.left self.new ≡ option_map (forward count) (rest_left S.left self.old) }
-        ensures limit { IsOpen self.old → IfSome (rest_left S.left self.old) (λ r. (r.at + count ≤ 8589934592) × (count ≤ length r.bytes)) }
+        ensures limit { IsOpen self.old →
+            IfSome (rest_left S.left self.old) (λ r. (r.at + count ≤ MOST_MESH_BYTES) × (count ≤ length r.bytes)) }
     {
         self.from += count;
     }
@@ -152,12 +156,14 @@ impl<S: Source> Feed<S> {
     /// `TooMany` where there are more, `Read` where the source fails, and `Memory`.
     fn expect_end(&mut self) -> Result<(), MeshFault>
         requires open { IsOpen self.old }
-        requires full { self.old.stream.at ≡ 8589934592 }
+        requires full { self.old.stream.at ≡ MOST_MESH_BYTES }
         ensures same { OnOk result (rest_left S.left self.new ≡ rest_left S.left self.old) }
         ensures ahead { self.new.ahead ≡ self.old.ahead }
         ensures end { OnOk result (IsAtEnd (left_of S.left self.new.stream)) }
         ensures open { OnOk result (IsOpen self.new) }
-        ensures beyond { IfErr result (λ fault. FailsBeyond (length self.old.ahead) (rest_left S.left self.old) fault (rest_left S.left self.new)) }
+        ensures beyond { IfErr result
+            (λ fault. FailsBeyond (length self.old.ahead) (rest_left S.left self.old) fault
+            (rest_left S.left self.new)) }
         ensures uses { UsesSource S.left S.faults MeshFault.Read self.old.stream self.new.stream result }
     {
         if let Err(fault) = self.lines.next() {
@@ -172,13 +178,15 @@ impl<S: Source> Feed<S> {
     /// `Read` where the source fails.
     fn take_block(&mut self) -> Result<usize, MeshFault>
         requires open { IsOpen self.old }
-        requires short { length self.old.ahead < 4096 }
-        requires room { self.old.stream.at < 8589934592 }
+        requires short { length self.old.ahead < BLOCK }
+        requires room { self.old.stream.at < MOST_MESH_BYTES }
         ensures same { OnOk result (rest_left S.left self.new ≡ rest_left S.left self.old) }
         ensures count { IfOk result (λ n. length self.new.ahead ≡ length self.old.ahead + n) }
         ensures end { IfOk result (λ n. n ≡ 0 → IsAtEnd (left_of S.left self.new.stream)) }
         ensures open { OnOk result (IsOpen self.new) }
-        ensures beyond { IfErr result (λ fault. FailsBeyond (length self.old.ahead) (rest_left S.left self.old) fault (rest_left S.left self.new)) }
+        ensures beyond { IfErr result
+            (λ fault. FailsBeyond (length self.old.ahead) (rest_left S.left self.old) fault
+            (rest_left S.left self.new)) }
         ensures uses { UsesSource S.left S.faults MeshFault.Read self.old.stream self.new.stream result }
     {
         let to = moved_to_front(&mut self.buffer, self.from, self.to);
@@ -204,12 +212,14 @@ impl<S: Source> Feed<S> {
     /// `TooMany` where there is a byte past the limit, `Read` where the source fails, and `Memory`.
     fn refill(&mut self) -> Result<usize, MeshFault>
         requires open { IsOpen self.old }
-        requires short { length self.old.ahead < 4096 }
+        requires short { length self.old.ahead < BLOCK }
         ensures same { OnOk result (rest_left S.left self.new ≡ rest_left S.left self.old) }
         ensures count { IfOk result (λ n. length self.new.ahead ≡ length self.old.ahead + n) }
         ensures end { IfOk result (λ n. n ≡ 0 → IsAtEnd (left_of S.left self.new.stream)) }
         ensures open { OnOk result (IsOpen self.new) }
-        ensures beyond { IfErr result (λ fault. FailsBeyond (length self.old.ahead) (rest_left S.left self.old) fault (rest_left S.left self.new)) }
+        ensures beyond { IfErr result
+            (λ fault. FailsBeyond (length self.old.ahead) (rest_left S.left self.old) fault
+            (rest_left S.left self.new)) }
         ensures uses { UsesSource S.left S.faults MeshFault.Read self.old.stream self.new.stream result }
     {
         if self.lines.at() < MOST_MESH_BYTES {

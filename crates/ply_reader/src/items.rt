@@ -9,7 +9,7 @@ ghost use Rattle.ply_reader.specs.Reader.{items_left, Ends, GivesNext};
 
 use super::body::item_in;
 use super::feed::Feed;
-use mesh_data::{Item, MeshFault};
+use mesh_items::{Item, MeshFault};
 use oemm_io::Source;
 use ply_header::Layout;
 
@@ -25,7 +25,9 @@ pub fn item_after<S: Source>(
     ensures open { OnOk result (IsOpen feed.new) }
     ensures next { IfOk result (GivesNext layout.now done (rest_left S.left feed.old) (rest_left S.left feed.new)) }
     ensures end { done ≡ layout.now.vertex.count + layout.now.face.count → (result ≡ Ok None) × (feed.new ≡ feed.old) }
-    ensures fault { IfErr result (λ fault. Ends (option_map (items_left layout.now done) (rest_left S.left feed.old)) fault (left_of S.left feed.new.stream)) }
+    ensures fault { IfErr result
+        (λ fault. Ends (option_map (items_left layout.now done) (rest_left S.left feed.old)) fault
+        (left_of S.left feed.new.stream)) }
     ensures uses { UsesSource S.left S.faults MeshFault.Read feed.old.stream feed.new.stream result }
 {
     if done == layout.vertex.count + layout.face.count {

@@ -3,8 +3,9 @@
 use super::feed::Feed;
 use super::items::item_after;
 use super::start::read_header;
-use mesh_data::{Item, Items, MeshFault};
+use mesh_items::{Item, Items, MeshFault};
 use oemm_io::Source;
+use oemm_limits::MOST_MESH_BYTES;
 use oemm_lines::Lines;
 use ply_header::Layout;
 use std::marker::Model;
@@ -36,15 +37,14 @@ impl<S> Model for PlyReader<S> {
 impl<S: Source> PlyReader<S> {
     ghost use Rattle.std.specs.Prelude.{◌≡◌, false, None};
     ghost use Rattle.std.specs.Option.{option_map};
-    ghost use Rattle.mesh_data.specs.Reading.{nothing_given, Steps, Reads};
-    ghost use Rattle.mesh_reading.specs.Faults.{most_mesh_bytes};
+    ghost use Rattle.mesh_items.specs.Reading.{nothing_given, Advances, Reads};
     ghost use Rattle.oemm_lines.specs.Stream.{fresh_stream, UsesSource};
     ghost use Rattle.ply_reader.specs.Mesh.{ply_reading};
     ghost use Rattle.ply_reader.specs.Reader.{given_of, reading_of, source_of};
 
     /// A reader of all that the source says. No line was read yet, the budget is 2^33 bytes, and there are no comments.
     pub fn new(lines: Lines<S>) -> PlyReader<S>
-        requires { lines ≡ fresh_stream most_mesh_bytes false lines.source }
+        requires { lines ≡ fresh_stream MOST_MESH_BYTES false lines.source }
         ensures source { source_of result ≡ lines.source }
         ensures given { given_of result ≡ nothing_given }
         ensures reading { reading_of S.left result ≡ option_map ply_reading (S.left lines.source) }
@@ -69,7 +69,7 @@ impl<S: Source> PlyReader<S> {
     fn begin(&mut self) -> Result<Option<Item>, MeshFault>
         requires calm { self.old.fault ≡ None }
         requires first { self.old.layout ≡ None }
-        ensures given { Steps (given_of self.old) result (given_of self.new) }
+        ensures given { Advances (given_of self.old) result (given_of self.new) }
         ensures told { Reads (reading_of S.left self.old) result (reading_of S.left self.new) }
         ensures uses { UsesSource S.left S.faults MeshFault.Read self.old.feed.stream self.new.feed.stream result }
     {
@@ -92,7 +92,7 @@ impl<S: Source> Items for PlyReader<S> {
     ghost use Rattle.std.specs.Prelude.{◌≡◌, None, Ok, Err, IfSome};
     ghost use Rattle.fault_counts.specs.Counts.{TellsFailure};
     ghost use Rattle.fault_counts.specs.Told.{TakesSome};
-    ghost use Rattle.mesh_data.specs.Reading.{IsComplete, Steps, Reads};
+    ghost use Rattle.mesh_items.specs.Reading.{IsComplete, Advances, Reads};
     ghost use Rattle.ply_reader.specs.Reader.{given_of, reading_of, source_of};
 
     ghost given = { λ a. given_of a };
@@ -109,12 +109,14 @@ impl<S: Source> Items for PlyReader<S> {
     /// The first fault of the mesh. Once a fault was answered, each later call answers it again. Neither then nor
     /// behind the last face anything is asked of the source.
     fn next(&mut self) -> Result<Option<Item>, MeshFault>
-        ensures given { Steps (given_of self.old) result (given_of self.new) }
+        ensures given { Advances (given_of self.old) result (given_of self.new) }
         ensures told { Reads (reading_of S.left self.old) result (reading_of S.left self.new) }
         ensures left { TakesSome (S.left (source_of self.old)) (S.left (source_of self.new)) }
-        ensures cause { self.old.fault ≡ None → TellsFailure MeshFault.Read (S.faults (source_of self.old)) (S.faults (source_of self.new)) result }
+        ensures cause { self.old.fault ≡ None →
+            TellsFailure MeshFault.Read (S.faults (source_of self.old)) (S.faults (source_of self.new)) result }
         ensures again { IfSome self.old.fault (λ fault. (result ≡ Err fault) × (self.new ≡ self.old)) }
-        ensures end { self.old.fault ≡ None → IsComplete (given_of self.old) → (result ≡ Ok None) × (self.new ≡ self.old) }
+        ensures end { self.old.fault ≡ None → IsComplete (given_of self.old) → (result ≡ Ok None)
+            × (self.new ≡ self.old) }
     {
         if let Some(fault) = self.fault {
             return Err(fault);

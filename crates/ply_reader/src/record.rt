@@ -3,7 +3,7 @@
 ghost use Rattle.std.specs.Prelude.{◌≡◌, ◌≤◌, ◌<◌, ◌+◌, ◌*◌, drop, length, Some, IfErr, IfOk, IfSome, OnOk};
 ghost use Rattle.mesh_data.specs.Triangles.{IsProper, IsBelow};
 ghost use Rattle.oemm_lines.specs.Stream.{UsesSource};
-ghost use Rattle.mesh_reading.specs.Results.{IsOfText};
+ghost use Rattle.mesh_items.specs.Results.{IsOfText};
 ghost use Rattle.ply_header.specs.Layout as layout;
 ghost use Rattle.ply_reader.specs.Body as grammar;
 ghost use Rattle.ply_reader.specs.Feed.{rest_left, Finds, IsFaceBelow, IsOpen, Passes};
@@ -11,9 +11,10 @@ ghost use Rattle.ply_reader.specs.Feed.{rest_left, Finds, IsFaceBelow, IsOpen, P
 use super::feed::Feed;
 use super::numbers::number_of;
 use super::values::{Record, Values};
-use mesh_data::{MeshFault, MeshWhy, Point, Tri};
-use mesh_reading::{fault_at, name_of, triangle_of};
+use mesh_data::Tri;
+use mesh_items::{MeshFault, MeshWhy, fault_at, name_of, triangle_of};
 use oemm_io::Source;
+use oemm_octree::Point;
 use ply_header::{Axis, ByteOrder, Property, ScalarType, size_of};
 
 /// Nothing of a record was read yet.
@@ -95,7 +96,8 @@ pub fn number_in<S: Source>(
     number: ScalarType,
 ) -> Result<i64, MeshFault>
     requires { IsOpen feed.old }
-    ensures finds { Finds (grammar.number_in order number) (rest_left S.left feed.old) result (rest_left S.left feed.new) }
+    ensures finds { Finds (grammar.number_in order number) (rest_left S.left feed.old) result
+        (rest_left S.left feed.new) }
     ensures open { OnOk result (IsOpen feed.new) }
     ensures uses { UsesSource S.left S.faults MeshFault.Read feed.old.stream feed.new.stream result }
 {
@@ -113,7 +115,8 @@ fn count_in<S: Source>(
     count: ScalarType,
 ) -> Result<u64, MeshFault>
     requires { IsOpen feed.old }
-    ensures finds { Finds (grammar.count_in here.now count) (rest_left S.left feed.old) result (rest_left S.left feed.new) }
+    ensures finds { Finds (grammar.count_in here.now count) (rest_left S.left feed.old) result
+        (rest_left S.left feed.new) }
     ensures open { OnOk result (IsOpen feed.new) }
     ensures uses { UsesSource S.left S.faults MeshFault.Read feed.old.stream feed.new.stream result }
 {
@@ -129,7 +132,8 @@ fn list_passed<S: Source>(
     item: ScalarType,
 ) -> Result<(), MeshFault>
     requires { IsOpen feed.old }
-    ensures passes { Passes (grammar.list_passed here.now count item) (rest_left S.left feed.old) result (rest_left S.left feed.new) }
+    ensures passes { Passes (grammar.list_passed here.now count item) (rest_left S.left feed.old) result
+        (rest_left S.left feed.new) }
     ensures open { OnOk result (IsOpen feed.new) }
     ensures uses { UsesSource S.left S.faults MeshFault.Read feed.old.stream feed.new.stream result }
 {
@@ -145,7 +149,8 @@ fn indices_in<S: Source>(
     item: ScalarType,
 ) -> Result<Tri, MeshFault>
     requires { IsOpen feed.old }
-    ensures finds { Finds (grammar.indices_in here.now item) (rest_left S.left feed.old) result (rest_left S.left feed.new) }
+    ensures finds { Finds (grammar.indices_in here.now item) (rest_left S.left feed.old) result
+        (rest_left S.left feed.new) }
     ensures proper { IfOk result IsProper }
     ensures below { IfOk result (IsBelow here.now.vertices) }
     ensures open { OnOk result (IsOpen feed.new) }
@@ -167,7 +172,8 @@ fn corners_in<S: Source>(
     item: ScalarType,
 ) -> Result<Tri, MeshFault>
     requires { IsOpen feed.old }
-    ensures finds { Finds (grammar.corners_in here.now count item) (rest_left S.left feed.old) result (rest_left S.left feed.new) }
+    ensures finds { Finds (grammar.corners_in here.now count item) (rest_left S.left feed.old) result
+        (rest_left S.left feed.new) }
     ensures proper { IfOk result IsProper }
     ensures below { IfOk result (IsBelow here.now.vertices) }
     ensures open { OnOk result (IsOpen feed.new) }
@@ -190,7 +196,8 @@ fn coordinate_in<S: Source>(
     values: Values,
 ) -> Result<Values, MeshFault>
     requires { IsOpen feed.old }
-    ensures finds { Finds (grammar.coordinate_in here.now axis number values) (rest_left S.left feed.old) result (rest_left S.left feed.new) }
+    ensures finds { Finds (grammar.coordinate_in here.now axis number values) (rest_left S.left feed.old) result
+        (rest_left S.left feed.new) }
     ensures face { IfOk result (λ v. v.face ≡ values.face) }
     ensures open { OnOk result (IsOpen feed.new) }
     ensures uses { UsesSource S.left S.faults MeshFault.Read feed.old.stream feed.new.stream result }
@@ -209,7 +216,8 @@ fn property_in<S: Source>(
 ) -> Result<Values, MeshFault>
     requires open { IsOpen feed.old }
     requires face { IfSome values.face (IsFaceBelow here.now.vertices) }
-    ensures finds { Finds (grammar.property_in here.now property values) (rest_left S.left feed.old) result (rest_left S.left feed.new) }
+    ensures finds { Finds (grammar.property_in here.now property values) (rest_left S.left feed.old) result
+        (rest_left S.left feed.new) }
     ensures face { IfOk result (λ v. IfSome v.face (IsFaceBelow here.now.vertices)) }
     ensures open { OnOk result (IsOpen feed.new) }
     ensures uses { UsesSource S.left S.faults MeshFault.Read feed.old.stream feed.new.stream result }
@@ -241,7 +249,8 @@ pub fn properties_in<S: Source>(
     properties: &[Property],
 ) -> Result<Values, MeshFault>
     requires { IsOpen feed.old }
-    ensures finds { Finds (grammar.properties_in here.now properties.now grammar.no_values) (rest_left S.left feed.old) result (rest_left S.left feed.new) }
+    ensures finds { Finds (grammar.properties_in here.now properties.now grammar.no_values)
+        (rest_left S.left feed.old) result (rest_left S.left feed.new) }
     ensures face { IfOk result (λ v. IfSome v.face (IsFaceBelow here.now.vertices)) }
     ensures open { OnOk result (IsOpen feed.new) }
     ensures uses { UsesSource S.left S.faults MeshFault.Read feed.old.stream feed.new.stream result }

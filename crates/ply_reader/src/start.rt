@@ -10,8 +10,7 @@ ghost use Rattle.ply_reader.specs.Feed.{rest_left, IsOpen};
 ghost use Rattle.ply_reader.specs.Reader.{first_of, header_of, Ends, HasLines};
 
 use super::feed::Feed;
-use mesh_data::{MeshFault, MeshWhy};
-use mesh_reading::fault_at;
+use mesh_items::{MeshFault, MeshWhy, fault_at};
 use oemm_io::Source;
 use oemm_lines::WordsLeft;
 use ply_header::{Header, Layout, ends, header_after, layout_of, nothing_declared};
@@ -33,7 +32,9 @@ fn first_line<S: Source>(feed: &mut Feed<S>) -> Result<Global, MeshFault>
     ensures lines { OnOk result (HasLines feed.new) }
     ensures told { OnOk result (option_map (first_of feed.old.stream) (left_of S.left feed.old.stream)
         ≡ option_map (header_of grammar.nothing_declared feed.new.stream) (left_of S.left feed.new.stream)) }
-    ensures fault { IfErr result (λ fault. Ends (option_map (first_of feed.old.stream) (left_of S.left feed.old.stream)) fault (left_of S.left feed.new.stream)) }
+    ensures fault { IfErr result
+        (λ fault. Ends (option_map (first_of feed.old.stream) (left_of S.left feed.old.stream)) fault
+        (left_of S.left feed.new.stream)) }
     ensures uses { UsesSource S.left S.faults MeshFault.Read feed.old.stream feed.new.stream result }
 {
     let line = feed.line()?;
@@ -54,8 +55,12 @@ fn rest_of_header<S: Source>(
     requires few { IsLimited declared }
     ensures open { OnOk result (IsOpen feed.new) }
     ensures few { IfOk result IsLaidOut }
-    ensures told { IfOk result (λ l. option_map (header_of declared feed.old.stream) (left_of S.left feed.old.stream) ≡ option_map (mesh.laid l) (rest_left S.left feed.new)) }
-    ensures fault { IfErr result (λ fault. Ends (option_map (header_of declared feed.old.stream) (left_of S.left feed.old.stream)) fault (left_of S.left feed.new.stream)) }
+    ensures told { IfOk result
+        (λ l. option_map (header_of declared feed.old.stream) (left_of S.left feed.old.stream)
+        ≡ option_map (mesh.laid l) (rest_left S.left feed.new)) }
+    ensures fault { IfErr result
+        (λ fault. Ends (option_map (header_of declared feed.old.stream) (left_of S.left feed.old.stream)) fault
+        (left_of S.left feed.new.stream)) }
     ensures uses { UsesSource S.left S.faults MeshFault.Read feed.old.stream feed.new.stream result }
 {
     let mut header = declared;
@@ -76,8 +81,12 @@ pub fn read_header<S: Source>(feed: &mut Feed<S>) -> Result<Layout, MeshFault>
     requires { HasLines feed.old }
     ensures open { OnOk result (IsOpen feed.new) }
     ensures few { IfOk result IsLaidOut }
-    ensures told { IfOk result (λ l. option_map (first_of feed.old.stream) (left_of S.left feed.old.stream) ≡ option_map (mesh.laid l) (rest_left S.left feed.new)) }
-    ensures fault { IfErr result (λ fault. Ends (option_map (first_of feed.old.stream) (left_of S.left feed.old.stream)) fault (left_of S.left feed.new.stream)) }
+    ensures told { IfOk result
+        (λ l. option_map (first_of feed.old.stream) (left_of S.left feed.old.stream)
+        ≡ option_map (mesh.laid l) (rest_left S.left feed.new)) }
+    ensures fault { IfErr result
+        (λ fault. Ends (option_map (first_of feed.old.stream) (left_of S.left feed.old.stream)) fault
+        (left_of S.left feed.new.stream)) }
     ensures uses { UsesSource S.left S.faults MeshFault.Read feed.old.stream feed.new.stream result }
 {
     let alloc = first_line(feed)?;

@@ -1,9 +1,12 @@
 //! Meshes from sources that give one byte at a take, and all.
 
 use super::{PlyReader, is_ply};
-use mesh_data::{ElementKind, Item, Items, MeshFault, MeshWhy, Name, Point, Tri, What};
+use mesh_data::{Name, Tri};
+use mesh_items::{ElementKind, Item, Items, MeshFault, MeshWhy};
 use oemm_io::{MemSource, Source};
+use oemm_limits::What;
 use oemm_lines::Lines;
+use oemm_octree::Point;
 use std::alloc::{AllocError, Global};
 use std::test::Fail;
 

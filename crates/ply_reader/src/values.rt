@@ -1,6 +1,7 @@
 //! What is read of a record.
 
-use mesh_data::{Point, Tri};
+use mesh_data::Tri;
+use oemm_octree::Point;
 use ply_header::ByteOrder;
 
 /// Which record is read.

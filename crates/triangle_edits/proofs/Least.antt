@@ -5,9 +5,9 @@ use Rattle.std.proofs.lemmas.Bool.Decides.{nat_tests}
 use Rattle.std.proofs.lemmas.Map.Keys.{le_from_is_le}
 use Rattle.std.specs.List.{Contains, AllByRecursion, find}
 use Rattle.std.specs.Ordering.{nat_cmp, is_le}
-use Rattle.mesh_data.specs.Ascending.{placed, in_order}
+use Rattle.oemm_lists.specs.Ascending.{inserted, in_order}
 use Rattle.mesh_data.specs.declared.geometry.Tri.{Tri}
-use Rattle.mesh_data.specs.Links.{is_opposite, least_shared}
+use Rattle.mesh_data.specs.Links.{is_opposite, link_violation}
 use Rattle.mesh_data.specs.Triangles.{neighbours}
 use Rattle.triangle_lists.specs.Names.{among}
 use Rattle.triangle_edits.specs.Links.{IsSharedBeside}
@@ -43,15 +43,15 @@ all_above : (n k : ℕ) (ns : List ℕ) → n ≤ k → AllByRecursion (λ m. k 
 all_above n k [] le all = tt
 all_above n k (m ∷ ns) le all = (omega (arith, all.0), all_above n k ns le all.1)
 
-all_placed : (k n : ℕ) (ns : List ℕ) → k ≤ n → AllByRecursion (λ m. k ≤ m) ns → AllByRecursion (λ m. k ≤ m) (placed nat_cmp n ns)
+all_placed : (k n : ℕ) (ns : List ℕ) → k ≤ n → AllByRecursion (λ m. k ≤ m) ns → AllByRecursion (λ m. k ≤ m) (inserted nat_cmp n ns)
 all_placed k n [] le all = (le, tt)
 all_placed k n (m ∷ ns) le all =
-    elim (is_le (nat_cmp n m)) as (λ b. AllByRecursion (λ m. k ≤ m) (cond b (n ∷ m ∷ ns) (m ∷ placed nat_cmp n ns))) [ true ↦ (le, all) | false ↦ (all.0, all_placed k n ns le all.1) ]
+    elim (is_le (nat_cmp n m)) as (λ b. AllByRecursion (λ m. k ≤ m) (cond b (n ∷ m ∷ ns) (m ∷ inserted nat_cmp n ns))) [ true ↦ (le, all) | false ↦ (all.0, all_placed k n ns le all.1) ]
 
-ascends-placed : (n : ℕ) (ns : List ℕ) → Ascends ns → Ascends (placed nat_cmp n ns)
+ascends-placed : (n : ℕ) (ns : List ℕ) → Ascends ns → Ascends (inserted nat_cmp n ns)
 ascends-placed n [] up = (tt, tt)
 ascends-placed n (m ∷ ns) up =
-    elim (is_le (nat_cmp n m)) as (λ b. is_le (nat_cmp n m) ≡ b → Ascends (cond b (n ∷ m ∷ ns) (m ∷ placed nat_cmp n ns))) [
+    elim (is_le (nat_cmp n m)) as (λ b. is_le (nat_cmp n m) ≡ b → Ascends (cond b (n ∷ m ∷ ns) (m ∷ inserted nat_cmp n ns))) [
       | true ↦ λ is. let le = le_from_is_le n m is in ((le, all_above n m ns le up.0), up)
       | false ↦ λ is. (all_placed m n ns (above n m is) up.0, ascends-placed n ns up.1)
     ] refl
@@ -65,10 +65,10 @@ or_swap true true c = refl
 or_swap true false c = refl
 or_swap false b c = refl
 
-among-placed : (w n : ℕ) (ns : List ℕ) → among w (placed nat_cmp n ns) ≡ (eqb n w || among w ns)
+among-placed : (w n : ℕ) (ns : List ℕ) → among w (inserted nat_cmp n ns) ≡ (eqb n w || among w ns)
 among-placed w n [] = refl
 among-placed w n (m ∷ ns) =
-    elim (is_le (nat_cmp n m)) as (λ b. among w (cond b (n ∷ m ∷ ns) (m ∷ placed nat_cmp n ns)) ≡ (eqb n w || (eqb m w || among w ns))) [
+    elim (is_le (nat_cmp n m)) as (λ b. among w (cond b (n ∷ m ∷ ns) (m ∷ inserted nat_cmp n ns)) ≡ (eqb n w || (eqb m w || among w ns))) [
       | true ↦ refl
       | false ↦ ap (λ (b : Bool). eqb m w || b) (among-placed w n ns) ∙ or_swap (eqb n w) (eqb m w) (among w ns)
     ]
@@ -105,7 +105,7 @@ none_passes p (n ∷ ns) x h on holds =
       | false ↦ λ fails is. elim (or_cases (eqb n x) (among x ns) on) [ inl it ↦ passes_here p n x fails holds it | inr later ↦ none_passes p ns x is later holds ]
     ] refl h
 
--- the test of `least_shared`
+-- the test of `link_violation`
 abbrev beside : List Tri → ℕ → ℕ → ℕ → Bool
 beside ts u v w = among w (neighbours v ts) && not (is_opposite ts u v w)
 
@@ -117,21 +117,21 @@ beside_from ts u v x shared =
       and_from (among x (neighbours v ts)) (not (is_opposite ts u v x)) (among_at (neighbours v ts) x of_v.0 of_v.1 of_v.2) (not_from_false (is_opposite ts u v x) shared.2),
     )
 
-pub least_shared_is : (ts : List Tri) (u v w : ℕ) → least_shared ts u v ≡ Some w → IsSharedBeside ts u v w
-unfolding least_shared
-least_shared_is ts u v w h =
+pub link_violation_is : (ts : List Tri) (u v w : ℕ) → link_violation ts u v ≡ Some w → IsSharedBeside ts u v w
+unfolding link_violation
+link_violation_is ts u v w h =
     let first = first_passes (beside ts u v) (in_order nat_cmp (neighbours u ts)) w h in
     let parts = and_parts (among w (neighbours v ts)) (not (is_opposite ts u v w)) first.1 in
     (contains-among (neighbours u ts) w (sym (among-in_order w (neighbours u ts)) ∙ first.0), contains-among (neighbours v ts) w parts.0, not-true (is_opposite ts u v w) parts.1)
 
-pub least_shared_below : (ts : List Tri) (u v w x : ℕ) → least_shared ts u v ≡ Some w → IsSharedBeside ts u v x → w ≤ x
-unfolding least_shared
-least_shared_below ts u v w x h shared =
+pub link_violation_below : (ts : List Tri) (u v w x : ℕ) → link_violation ts u v ≡ Some w → IsSharedBeside ts u v x → w ≤ x
+unfolding link_violation
+link_violation_below ts u v w x h shared =
     let passes = beside_from ts u v x shared in
     first_is_least (beside ts u v) (in_order nat_cmp (neighbours u ts)) w x (ascends-in_order (neighbours u ts)) h passes.0 passes.1
 
-pub none_shared : (ts : List Tri) (u v x : ℕ) → least_shared ts u v ≡ None → IsSharedBeside ts u v x → ⊥
-unfolding least_shared
+pub none_shared : (ts : List Tri) (u v x : ℕ) → link_violation ts u v ≡ None → IsSharedBeside ts u v x → ⊥
+unfolding link_violation
 none_shared ts u v x h shared =
     let passes = beside_from ts u v x shared in
     none_passes (beside ts u v) (in_order nat_cmp (neighbours u ts)) x h passes.0 passes.1

@@ -9,9 +9,9 @@ use Rattle.std.proofs.lemmas.List.Sorted.{searched, list_any-IsPermutation, IsNo
 use Rattle.std.specs.List.{list_any, filter, flat_map, find}
 use Rattle.std.specs.List.Sorted.{IsSorted, IsPermutation, IsBinarySearchResult}
 use Rattle.std.specs.Ordering.{nat_cmp}
-use Rattle.mesh_data.specs.Ascending.{in_order}
+use Rattle.oemm_lists.specs.Ascending.{in_order}
 use Rattle.mesh_data.specs.declared.geometry.Tri.{Tri}
-use Rattle.mesh_data.specs.Links.{apex, is_name, least_shared}
+use Rattle.mesh_data.specs.Links.{apex, is_name, link_violation}
 use Rattle.mesh_data.specs.Triangles.{has_corner, star, corners, neighbours}
 use Rattle.triangle_edits.specs.Links.{is_shared}
 
@@ -42,8 +42,8 @@ found_name ns w (Err i) up at =
     ne_eqb (get_or ns k d) w (λ e. elim (cases_lt k i) [ inl below ↦ let apart = parts.1 k below in omega arith | inr above ↦ let apart = parts.2 k above lt in omega arith ])))
 
 -- the least of the sorted neighbours of u that v has too and that don't stand opposite
-pub least_by : (ts : List Tri) (u v : ℕ) (of_u of_v : List ℕ) (one other : Option ℕ) → of_u ≡ in_order nat_cmp (neighbours u ts) → IsPermutation (neighbours v ts) of_v → one ≡ apex ts u v → other ≡ apex ts v u → find (is_shared of_v one other) of_u ≡ least_shared ts u v
-unfolding least_shared
+pub least_by : (ts : List Tri) (u v : ℕ) (of_u of_v : List ℕ) (one other : Option ℕ) → of_u ≡ in_order nat_cmp (neighbours u ts) → IsPermutation (neighbours v ts) of_v → one ≡ apex ts u v → other ≡ apex ts v u → find (is_shared of_v one other) of_u ≡ link_violation ts u v
+unfolding link_violation
 least_by ts u v of_u of_v one other of is ahead behind =
     let among : (w : ℕ) → list_any (λ x. eqb x w) of_v ≡ list_any (λ x. eqb x w) (neighbours v ts) = λ w. sym (list_any-IsPermutation (λ x. eqb x w) (neighbours v ts) of_v is) in
     λ i. find (λ w. among w i && not (is_name (ahead i) w || is_name (behind i) w)) (of i)

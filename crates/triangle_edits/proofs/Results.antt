@@ -7,9 +7,9 @@ use Rattle.std.proofs.lemmas.List.Filters.{length-filter_both}
 use Rattle.std.specs.List.{list_any, filter, AllByRecursion}
 use Rattle.std.specs.Ordering.{is_le}
 use Rattle.std.specs.declared.cmp.Ordering.{Ordering}
-use Rattle.mesh_data.specs.Ascending.{placed, in_order}
+use Rattle.oemm_lists.specs.Ascending.{inserted, in_order}
 use Rattle.mesh_data.specs.declared.geometry.Tri.{Tri}
-use Rattle.mesh_data.specs.Edits.{renamed, put_for, collapsed_tris, flipped_tris}
+use Rattle.mesh_data.specs.Edits.{renamed, substituted, collapsed_tris, flipped_tris}
 use Rattle.mesh_data.specs.Links.{has_both, opposites}
 use Rattle.mesh_data.specs.Manifold.{IsTriangleOn}
 use Rattle.mesh_data.specs.Triangles.{IsProper, has_corner, turned, tri_cmp}
@@ -17,19 +17,19 @@ use Rattle.triangle_edits.proofs.Turns.{IsFace, face_next, face_of, face_at, end
 
 -- ---- lists in order
 
-all_placed : {X : Type 0} (P : X → Type 0) (R : X → X → Ordering) (x : X) (xs : List X) → P x → AllByRecursion P xs → AllByRecursion P (placed R x xs)
+all_placed : {X : Type 0} (P : X → Type 0) (R : X → X → Ordering) (x : X) (xs : List X) → P x → AllByRecursion P xs → AllByRecursion P (inserted R x xs)
 all_placed P R x [] h all = (h, tt)
 all_placed P R x (y ∷ ys) h all =
-    elim (is_le (R x y)) as (λ b. AllByRecursion P (cond b (x ∷ y ∷ ys) (y ∷ placed R x ys))) [ true ↦ (h, all) | false ↦ (all.0, all_placed P R x ys h all.1) ]
+    elim (is_le (R x y)) as (λ b. AllByRecursion P (cond b (x ∷ y ∷ ys) (y ∷ inserted R x ys))) [ true ↦ (h, all) | false ↦ (all.0, all_placed P R x ys h all.1) ]
 
 all_in_order : {X : Type 0} (P : X → Type 0) (R : X → X → Ordering) (xs : List X) → AllByRecursion P xs → AllByRecursion P (in_order R xs)
 all_in_order P R [] all = tt
 all_in_order P R (x ∷ xs) all = all_placed P R x (in_order R xs) all.0 (all_in_order P R xs all.1)
 
-length-placed : {X : Type 0} (R : X → X → Ordering) (x : X) (xs : List X) → length (placed R x xs) ≡ suc (length xs)
+length-placed : {X : Type 0} (R : X → X → Ordering) (x : X) (xs : List X) → length (inserted R x xs) ≡ suc (length xs)
 length-placed R x [] = refl
 length-placed R x (y ∷ ys) =
-    elim (is_le (R x y)) as (λ b. length (cond b (x ∷ y ∷ ys) (y ∷ placed R x ys)) ≡ suc (suc (length ys))) [ true ↦ refl | false ↦ ap (λ (n : ℕ). suc n) (length-placed R x ys) ]
+    elim (is_le (R x y)) as (λ b. length (cond b (x ∷ y ∷ ys) (y ∷ inserted R x ys)) ≡ suc (suc (length ys))) [ true ↦ refl | false ↦ ap (λ (n : ℕ). suc n) (length-placed R x ys) ]
 
 pub length-in_order : {X : Type 0} (R : X → X → Ordering) (xs : List X) → length (in_order R xs) ≡ length xs
 length-in_order R [] = refl
@@ -92,12 +92,12 @@ kept_face P Q u v t keeps on_v out f =
       at_c = renamed_on P Q u v t.c keeps on_v f.at_c;
     }
 
-kept_triangles : (P Q : ℕ → Type 0) (u v : ℕ) (ts : List Tri) → ((w : ℕ) → P w → (w ≢ u) → Q w) → Q v → AllByRecursion (IsTriangleOn P) ts → AllByRecursion (IsTriangleOn Q) (map (λ t. turned (put_for u v t)) (filter (λ t. not (has_both u v t)) ts))
+kept_triangles : (P Q : ℕ → Type 0) (u v : ℕ) (ts : List Tri) → ((w : ℕ) → P w → (w ≢ u) → Q w) → Q v → AllByRecursion (IsTriangleOn P) ts → AllByRecursion (IsTriangleOn Q) (map (λ t. turned (substituted u v t)) (filter (λ t. not (has_both u v t)) ts))
 kept_triangles P Q u v [] keeps on_v all = tt
 kept_triangles P Q u v (t ∷ ts) keeps on_v all =
     let rest = kept_triangles P Q u v ts keeps on_v all.1 in
-    elim (not (has_both u v t)) as (λ b. not (has_both u v t) ≡ b → AllByRecursion (IsTriangleOn Q) (map (λ s. turned (put_for u v s)) (cond b (t ∷ filter (λ s. not (has_both u v s)) ts) (filter (λ s. not (has_both u v s)) ts)))) [
-      | true ↦ λ out. (face_turned Q (put_for u v t) (kept_face P Q u v t keeps on_v (not-true (has_both u v t) out) (face_of P t all.0)), rest)
+    elim (not (has_both u v t)) as (λ b. not (has_both u v t) ≡ b → AllByRecursion (IsTriangleOn Q) (map (λ s. turned (substituted u v s)) (cond b (t ∷ filter (λ s. not (has_both u v s)) ts) (filter (λ s. not (has_both u v s)) ts)))) [
+      | true ↦ λ out. (face_turned Q (substituted u v t) (kept_face P Q u v t keeps on_v (not-true (has_both u v t) out) (face_of P t all.0)), rest)
       | false ↦ λ _. rest
     ] refl
 

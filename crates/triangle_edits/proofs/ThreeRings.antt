@@ -6,7 +6,7 @@ use Rattle.mesh_data.specs.declared.geometry.Edge.{Edge}
 use Rattle.mesh_data.specs.declared.geometry.Tri.{Tri}
 use Rattle.mesh_data.specs.declared.rings.Ring.{Ring}
 use Rattle.mesh_data.specs.Links.{names_along, is_closed_by_three}
-use Rattle.mesh_data.specs.Rings.{has_step, way, IsRingOf, go_round, link}
+use Rattle.mesh_data.specs.Rings.{has_path_edge, way, IsRingOf, go_round, link}
 use Rattle.mesh_data.specs.Triangles.{same_edge}
 use Rattle.triangle_lists.proofs.Candidates.{no_ring, going_by_found, not_going, found_by_going}
 use Rattle.triangle_lists.proofs.RingLaws.{ring, on_path, ring_at, ring_way, ring_fits, starts_on_ring, length-steps_closed}
@@ -24,7 +24,7 @@ length-along [] names r = absurd (no_ring (ring true names) r)
 length-along (e ∷ es) [] r = absurd (omega (arith, r.long))
 length-along (e ∷ es) (x ∷ ns) r =
     let t = e ∷ es in
-    let here = ring_at t (x ∷ ns) e.a r (starts_on_ring t true x ns r e (or_left (same_edge e e) (has_step es e) (same_itself e))) in
+    let here = ring_at t (x ∷ ns) e.a r (starts_on_ring t true x ns r e (or_left (same_edge e e) (has_path_edge es e) (same_itself e))) in
     let round : way (length t) t e.a e.a ≡ e.a ∷ here.0 = ring_way t true e.a here.0 (length t) here.1 (omega (arith, ring_fits t true e.a here.0 here.1, length-steps_closed e.a e.a here.0)) in
     let same : length (x ∷ ns) ≡ length (e.a ∷ here.0) = omega (arith, no_longer t x e.a ns here.0 r here.1, no_longer t e.a x here.0 ns here.1 r) in
     same ∙ ap length (sym round)

@@ -1,7 +1,7 @@
 //! The lists of triangles that a collapse and a flip leave.
 
 ghost use Rattle.std.specs.Prelude.{◌≡◌, ◌≤◌, ◌==◌, not, map, filter, length, IfOk};
-ghost use Rattle.mesh_data.specs.Edits.{renamed, put_for, collapsed_tris, flipped_tris};
+ghost use Rattle.mesh_data.specs.Edits.{renamed, substituted, collapsed_tris, flipped_tris};
 ghost use Rattle.mesh_data.specs.Links.{has_both};
 
 use crate::lookups::has_both;
@@ -17,8 +17,8 @@ fn renamed(u: Name, v: Name, w: Name) -> Name
 }
 
 /// The triangle with v in the place of u, if it has u.
-pub fn put_for(u: Name, v: Name, t: &Tri) -> Tri
-    ensures { result ≡ put_for u v t.now }
+pub fn substituted(u: Name, v: Name, t: &Tri) -> Tri
+    ensures { result ≡ substituted u v t.now }
 {
     Tri {
         a: renamed(u, v, t.a),
@@ -40,13 +40,14 @@ fn without_both(alloc: Global, tris: &[Tri], u: Name, v: Name) -> Result<Vec<Tri
 
 /// The triangles with v in the place of u.
 fn put_in_all(alloc: Global, tris: &[Tri], u: Name, v: Name) -> Result<Vec<Tri>, AllocError>
-    ensures { IfOk result (λ put. put.items ≡ map (put_for u v) tris.now) }
+    ensures { IfOk result (λ put. put.items ≡ map (substituted u v) tris.now) }
 {
-    tris.iter().map(|t| put_for(u, v, t)).collect(alloc)
+    tris.iter().map(|t| substituted(u, v, t)).collect(alloc)
 }
 
-/// The triangles without those that have u and v, and with v for u in the others, turned and in order. It
-/// takes time of about F log F for F triangles.
+/// The triangles that the half-edge collapse of u onto v leaves (a contraction of Garland and Heckbert, 1997, onto one
+/// end of the edge): those without both names, with v for u, turned and in order. It takes time of about F log F for F
+/// triangles.
 ///
 /// # Errors
 /// Want of memory.
@@ -59,8 +60,8 @@ pub fn collapsed_tris(alloc: Global, tris: &[Tri], u: Name, v: Name) -> Result<V
     turned_in_order(alloc, put.as_slice())
 }
 
-/// The triangles with the two at the edge of a and b turned to the edge of c and d, in order: those that
-/// have a and b give way to (a, d, c) and (d, b, c). It takes time of about F log F for F triangles.
+/// The triangles that an edge flip leaves (Lawson, 1977), from the edge of a and b to that of c and d, in order: those
+/// that have a and b give way to (a, d, c) and (d, b, c). It takes time of about F log F for F triangles.
 ///
 /// # Errors
 /// Want of memory.

@@ -3,7 +3,7 @@
 ghost use Rattle.std.specs.Prelude.{◌≡◌, ◌≤◌, ℕ, List, length, Some, None, true};
 ghost use Rattle.mesh_data.specs.declared.geometry.Tri.{Tri};
 ghost use Rattle.mesh_data.specs.declared.rings.Ring.{Ring};
-ghost use Rattle.mesh_data.specs.Links.{is_closed_by_three, least_shared};
+ghost use Rattle.mesh_data.specs.Links.{is_closed_by_three, link_violation};
 ghost use Rattle.mesh_data.specs.Rings.{IsRing};
 ghost use Rattle.triangle_edits.specs.Links.{IsSharedBeside};
 
@@ -17,8 +17,8 @@ pub fn closed_by_three_laws()
 
 /// That the least shared name of u and v is a neighbour of both that doesn't lie opposite of their edge, that no such
 /// name is less, and that there is none of them where it is none.
-pub fn least_shared_laws()
-    ensures shared { (ts : List Tri) (u v w : ℕ) → least_shared ts u v ≡ Some w → IsSharedBeside ts u v w }
-    ensures least { (ts : List Tri) (u v w x : ℕ) → least_shared ts u v ≡ Some w → IsSharedBeside ts u v x → w ≤ x }
-    ensures none { (ts : List Tri) (u v x : ℕ) → least_shared ts u v ≡ None → IsSharedBeside ts u v x → ⊥ }
+pub fn link_condition_laws()
+    ensures shared { (ts : List Tri) (u v w : ℕ) → link_violation ts u v ≡ Some w → IsSharedBeside ts u v w }
+    ensures least { (ts : List Tri) (u v w x : ℕ) → link_violation ts u v ≡ Some w → IsSharedBeside ts u v x → w ≤ x }
+    ensures none { (ts : List Tri) (u v x : ℕ) → link_violation ts u v ≡ None → IsSharedBeside ts u v x → ⊥ }
 {}

@@ -2,14 +2,13 @@
 #![tactic(auto)]
 
 mod effects;
-mod laws;
+pub mod laws;
+mod link_condition;
 mod lookups;
-mod shared;
 
-pub use effects::{collapsed_tris, flipped_tris, put_for};
-pub use laws::{closed_by_three_laws, least_shared_laws};
+pub use effects::{collapsed_tris, flipped_tris, substituted};
+pub use link_condition::{is_closed_by_three, link_violation};
 pub use lookups::{apex, are_neighbours, has_corner, opposites};
-pub use shared::{is_closed_by_three, least_shared};
 
 #[cfg(test)]
 mod tests;

@@ -56,8 +56,8 @@ pub fn apex(tris: &[Tri], a: Name, b: Name) -> Option<Name>
     None
 }
 
-/// The two names that lie opposite of the edge of a and b, if it has a triangle in both directions: that of the edge from a
-/// to b comes first.
+/// The two names that lie opposite of the edge of a and b, if it has a triangle in both directions: that of the edge
+/// from a to b comes first.
 pub fn opposites(tris: &[Tri], a: Name, b: Name) -> Option<(Name, Name)>
     ensures { result ≡ opposites tris.now a b }
 {

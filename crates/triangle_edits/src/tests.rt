@@ -125,7 +125,7 @@ fn shared_names(rt: HostRuntime) -> Result<(), Fail> {
         (&DOUBLE_PYRAMID[..], 3, 0, None),
     ] {
         let tris = tris(rt.alloc(), faces)?;
-        let least = least_shared(rt.alloc(), tris.as_slice(), Name(u), Name(v))?;
+        let least = link_violation(rt.alloc(), tris.as_slice(), Name(u), Name(v))?;
         assert_eq!(rt; least, want, "{u} {v}");
     }
     Ok(())

@@ -8,14 +8,14 @@ use Rattle.std.specs.List.{filter, All, AllByRecursion}
 use Rattle.mesh_data.specs.declared.geometry.Edge.{Edge}
 use Rattle.mesh_data.specs.declared.geometry.Tri.{Tri}
 use Rattle.mesh_data.specs.Manifold.{IsEachEdgeOnce}
-use Rattle.mesh_data.specs.Rings.{has_step}
+use Rattle.mesh_data.specs.Rings.{has_path_edge}
 use Rattle.mesh_data.specs.Triangles.{IsProper, edge_cmp, same_edge, reversed, undirected, undirected_edges, directed_edges, each_once, border_edges}
 use Rattle.triangle_lists.proofs.Orders.{edge_cmp_total, edge_cmp-IsAntisymmetric}
 use Rattle.triangle_lists.proofs.OnceLaws.{once_strict}
 use Rattle.triangle_lists.proofs.EdgeSets.{same_edges, len-from_strict}
 use Rattle.triangle_lists.proofs.Walks.{same_itself}
 use Rattle.triangle_lists.proofs.RingLaws.{contains_step, len_of_one_more}
-use Rattle.triangle_lists.proofs.RingTests.{has_step-once}
+use Rattle.triangle_lists.proofs.RingTests.{has_path_edge-once}
 use Rattle.triangle_lists.proofs.Paths.{eqb_comm}
 use Rattle.triangle_lists.proofs.Candidates.{same_answers, and_comm}
 use Rattle.triangle_lists.proofs.Counts.{often, one_if, often_is}
@@ -70,10 +70,10 @@ or_both false true true d = refl
 or_both false true false d = refl
 or_both false false c d = refl
 
-has-undirected : (es : List Edge) (e : Edge) → has_step (map undirected es) (undirected e) ≡ (has_step es e || has_step es (reversed e))
+has-undirected : (es : List Edge) (e : Edge) → has_path_edge (map undirected es) (undirected e) ≡ (has_path_edge es e || has_path_edge es (reversed e))
 has-undirected [] e = refl
 has-undirected (f ∷ es) e =
-    (λ i. same_undirected e f i || has-undirected es e i) ∙ or_both (same_edge e f) (same_edge (reversed e) f) (has_step es e) (has_step es (reversed e))
+    (λ i. same_undirected e f i || has-undirected es e i) ∙ or_both (same_edge e f) (same_edge (reversed e) f) (has_path_edge es e) (has_path_edge es (reversed e))
 
 -- ---- counts
 
@@ -91,15 +91,15 @@ often_split : (p q : Edge → Bool) (es : List Edge) → often (λ e. not (p e |
 often_split p q [] = refl
 often_split p q (e ∷ es) = omega (arith, one_split (p e) (q e), often_split p q es)
 
-often_none : (q : Edge) (es : List Edge) → has_step es q ≡ false → often (same_edge q) es ≡ 0
+often_none : (q : Edge) (es : List Edge) → has_path_edge es q ≡ false → often (same_edge q) es ≡ 0
 often_none q [] h = refl
 often_none q (e ∷ es) h =
-    elim (same_edge q e) as (λ b. (b || has_step es q) ≡ false → one_if b + often (same_edge q) es ≡ 0) [ true ↦ λ g. absurd (false≢true (sym g)) | false ↦ λ g. omega (arith, often_none q es g) ] h
+    elim (same_edge q e) as (λ b. (b || has_path_edge es q) ≡ false → one_if b + often (same_edge q) es ≡ 0) [ true ↦ λ g. absurd (false≢true (sym g)) | false ↦ λ g. omega (arith, often_none q es g) ] h
 
-often_some : (q : Edge) (es : List Edge) → has_step es q ≡ true → 1 ≤ often (same_edge q) es
+often_some : (q : Edge) (es : List Edge) → has_path_edge es q ≡ true → 1 ≤ often (same_edge q) es
 often_some q [] h = absurd (false≢true h)
 often_some q (e ∷ es) h =
-    elim (same_edge q e) as (λ b. (b || has_step es q) ≡ true → 1 ≤ one_if b + often (same_edge q) es) [ true ↦ λ g. omega arith | false ↦ λ g. omega (arith, often_some q es g) ] h
+    elim (same_edge q e) as (λ b. (b || has_path_edge es q) ≡ true → 1 ≤ one_if b + often (same_edge q) es) [ true ↦ λ g. omega arith | false ↦ λ g. omega (arith, often_some q es g) ] h
 
 -- no edge comes twice
 abbrev pub AreOnce : List Edge → Type 0
@@ -108,9 +108,9 @@ AreOnce es = (q : Edge) → often (same_edge q) es ≤ 1
 once_tail : (e : Edge) (es : List Edge) → AreOnce (e ∷ es) → AreOnce es
 once_tail e es once q = omega (arith, once q)
 
-once_head : (e : Edge) (es : List Edge) → AreOnce (e ∷ es) → has_step es e ≡ false
+once_head : (e : Edge) (es : List Edge) → AreOnce (e ∷ es) → has_path_edge es e ≡ false
 once_head e es once =
-    false_from_ne_true (has_step es e) (λ h. omega (arith, once e, ap one_if (same_itself e), often_some e es h))
+    false_from_ne_true (has_path_edge es e) (λ h. omega (arith, once e, ap one_if (same_itself e), often_some e es h))
 
 -- ---- the law on a list of edges
 
@@ -122,48 +122,48 @@ undirected_count es = set.len (set.from_list {R = edge_cmp} (map undirected es))
 
 -- the edge's reverse is not among these
 abbrev is_lone : List Edge → Edge → Bool
-is_lone es e = not (has_step es (reversed e))
+is_lone es e = not (has_path_edge es (reversed e))
 
 same_reversed : (f e : Edge) → same_edge (reversed f) e ≡ same_edge (reversed e) f
 same_reversed f e = (λ i. eqb_comm f.b e.a i && eqb_comm f.a e.b i) ∙ and_comm (eqb e.a f.b) (eqb e.b f.a)
 
 -- where e is new, the edges that it keeps from being lone are its reverse
-lone_taken : (e : Edge) (es : List Edge) → has_step es e ≡ false → (f : Edge) → (same_edge (reversed f) e && not (has_step es (reversed f))) ≡ same_edge (reversed e) f
+lone_taken : (e : Edge) (es : List Edge) → has_path_edge es e ≡ false → (f : Edge) → (same_edge (reversed f) e && not (has_path_edge es (reversed f))) ≡ same_edge (reversed e) f
 lone_taken e es new f =
-    elim (same_edge (reversed f) e) as (λ b. same_edge (reversed f) e ≡ b → (b && not (has_step es (reversed f))) ≡ b) [
-      | true ↦ λ is. ap not (ap (has_step es) (same_edges (reversed f) e is) ∙ new)
+    elim (same_edge (reversed f) e) as (λ b. same_edge (reversed f) e ≡ b → (b && not (has_path_edge es (reversed f))) ≡ b) [
+      | true ↦ λ is. ap not (ap (has_path_edge es) (same_edges (reversed f) e is) ∙ new)
       | false ↦ λ _. refl
     ] refl
     ∙ same_reversed f e
 
-lone_more : (e : Edge) (es : List Edge) → has_step es e ≡ false → often (is_lone (e ∷ es)) es + often (same_edge (reversed e)) es ≡ often (is_lone es) es
+lone_more : (e : Edge) (es : List Edge) → has_path_edge es e ≡ false → often (is_lone (e ∷ es)) es + often (same_edge (reversed e)) es ≡ often (is_lone es) es
 lone_more e es new =
-    let split = often_split (λ f. same_edge (reversed f) e) (λ f. has_step es (reversed f)) es in
-    let taken = often_agree (λ f. same_edge (reversed f) e && not (has_step es (reversed f))) (same_edge (reversed e)) (lone_taken e es new) es in
+    let split = often_split (λ f. same_edge (reversed f) e) (λ f. has_path_edge es (reversed f)) es in
+    let taken = often_agree (λ f. same_edge (reversed f) e && not (has_path_edge es (reversed f))) (same_edge (reversed e)) (lone_taken e es new) es in
     omega (arith, split, taken)
 
-lone_itself : (e : Edge) (es : List Edge) → IsLoopless e → is_lone (e ∷ es) e ≡ not (has_step es (reversed e))
-lone_itself e es no_loop = ap (λ (b : Bool). not (b || has_step es (reversed e))) (and_left (eqb e.b e.a) (eqb e.a e.b) (ne_eqb e.b e.a (λ h. no_loop (sym h))))
+lone_itself : (e : Edge) (es : List Edge) → IsLoopless e → is_lone (e ∷ es) e ≡ not (has_path_edge es (reversed e))
+lone_itself e es no_loop = ap (λ (b : Bool). not (b || has_path_edge es (reversed e))) (and_left (eqb e.b e.a) (eqb e.a e.b) (ne_eqb e.b e.a (λ h. no_loop (sym h))))
 
-count_more : (e : Edge) (es : List Edge) → has_step es e ≡ false → undirected_count (e ∷ es) ≡ cond (has_step es (reversed e)) (undirected_count es) (undirected_count es + 1)
+count_more : (e : Edge) (es : List Edge) → has_path_edge es e ≡ false → undirected_count (e ∷ es) ≡ cond (has_path_edge es (reversed e)) (undirected_count es) (undirected_count es + 1)
 count_more e es new =
     let s = set.from_list {R = edge_cmp} (map undirected es) in
-    set.len-insert edge_cmp_total s (undirected e) ∙ ap (λ (b : Bool). cond b (set.len s) (set.len s + 1)) (contains_step (map undirected es) (undirected e) ∙ has-undirected es e ∙ ap (λ (b : Bool). b || has_step es (reversed e)) new)
+    set.len-insert edge_cmp_total s (undirected e) ∙ ap (λ (b : Bool). cond b (set.len s) (set.len s + 1)) (contains_step (map undirected es) (undirected e) ∙ has-undirected es e ∙ ap (λ (b : Bool). b || has_path_edge es (reversed e)) new)
 
 balance_step : (known : Bool) (u v n b c own rest : ℕ) → 2 * u ≡ n + b → v ≡ cond known u (u + 1) → own ≡ one_if (not known) → rest + c ≡ b → c ≡ one_if known → 2 * v ≡ suc n + (own + rest)
 balance_step true u v n b c own rest law grown first split taken = omega arith
 balance_step false u v n b c own rest law grown first split taken = omega arith
 
-taken_is : (e : Edge) (es : List Edge) → AreOnce es → often (same_edge (reversed e)) es ≡ one_if (has_step es (reversed e))
+taken_is : (e : Edge) (es : List Edge) → AreOnce es → often (same_edge (reversed e)) es ≡ one_if (has_path_edge es (reversed e))
 taken_is e es once =
-    elim (has_step es (reversed e)) as (λ b. has_step es (reversed e) ≡ b → often (same_edge (reversed e)) es ≡ one_if b) [ true ↦ λ h. omega (arith, often_some (reversed e) es h, once (reversed e)) | false ↦ λ h. often_none (reversed e) es h ] refl
+    elim (has_path_edge es (reversed e)) as (λ b. has_path_edge es (reversed e) ≡ b → often (same_edge (reversed e)) es ≡ one_if b) [ true ↦ λ h. omega (arith, often_some (reversed e) es h, once (reversed e)) | false ↦ λ h. often_none (reversed e) es h ] refl
 
 balance : (es : List Edge) → AllByRecursion IsLoopless es → AreOnce es → 2 * undirected_count es ≡ length es + often (is_lone es) es
 balance [] loopless once = omega (arith, set.len-empty edge_cmp)
 balance (e ∷ es) loopless once =
     let new = once_head e es once in
     let rest = once_tail e es once in
-    balance_step (has_step es (reversed e)) (undirected_count es) (undirected_count (e ∷ es)) (length es) (often (is_lone es) es) (often (same_edge (reversed e)) es) (one_if (is_lone (e ∷ es) e)) (often (is_lone (e ∷ es)) es) (balance es loopless.1 rest) (count_more e es new) (ap one_if (lone_itself e es loopless.0)) (lone_more e es new) (taken_is e es rest)
+    balance_step (has_path_edge es (reversed e)) (undirected_count es) (undirected_count (e ∷ es)) (length es) (often (is_lone es) es) (often (same_edge (reversed e)) es) (one_if (is_lone (e ∷ es) e)) (often (is_lone (e ∷ es)) es) (balance es loopless.1 rest) (count_more e es new) (ap one_if (lone_itself e es loopless.0)) (lone_more e es new) (taken_is e es rest)
 
 -- ---- the border and the triangles
 
@@ -180,7 +180,7 @@ len_once (e ∷ es) once = omega (arith, len_of_one_more e es (once_head e es on
 length-each_once : (es : List Edge) → AreOnce es → length (each_once es) ≡ length es
 length-each_once es once =
     sym (len-from_strict (each_once es) (once_strict es))
-    ∙ ap set.len (set.same_set edge_cmp_total edge_cmp-IsAntisymmetric (set.from_list (each_once es)) (set.from_list es) (λ q. contains_step (each_once es) q ∙ has_step-once es q ∙ sym (contains_step es q)))
+    ∙ ap set.len (set.same_set edge_cmp_total edge_cmp-IsAntisymmetric (set.from_list (each_once es)) (set.from_list es) (λ q. contains_step (each_once es) q ∙ has_path_edge-once es q ∙ sym (contains_step es q)))
     ∙ len_once es once
 
 sides_loopless : (ts : List Tri) → AllByRecursion IsProper ts → AllByRecursion IsLoopless (directed_edges ts)

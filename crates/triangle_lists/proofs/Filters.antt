@@ -5,7 +5,7 @@ use Rattle.std.specs.Cmp.{IsTotalOrder}
 use Rattle.std.specs.List.{filter}
 use Rattle.std.specs.Ordering.{is_le}
 use Rattle.std.specs.declared.cmp.Ordering.{Ordering}
-use Rattle.mesh_data.specs.Ascending.{placed, in_order}
+use Rattle.oemm_lists.specs.Ascending.{inserted, in_order}
 use Rattle.triangle_lists.proofs.Sorting.{IsLeast, IsLeast-below, Rises, Rises-in_order, le_of, not_gt}
 
 module _ {X : Type 0} {cmp : X → X → Ordering} (o : IsTotalOrder cmp) where
@@ -13,25 +13,25 @@ module _ {X : Type 0} {cmp : X → X → Ordering} (o : IsTotalOrder cmp) where
   IsLeast-filter p x [] h = tt
   IsLeast-filter p x (y ∷ ys) h = elim (p y) as (λ b. IsLeast o x (cond b (y ∷ filter p ys) (filter p ys))) [ true ↦ (h.0, IsLeast-filter p x ys h.1) | false ↦ IsLeast-filter p x ys h.1 ]
 
-  placed-least : (x : X) (ys : List X) → IsLeast o x ys → placed cmp x ys ≡ x ∷ ys
+  placed-least : (x : X) (ys : List X) → IsLeast o x ys → inserted cmp x ys ≡ x ∷ ys
   placed-least x [] h = refl
-  placed-least x (y ∷ ys) h = ap (λ (b : Bool). cond b (x ∷ y ∷ ys) (y ∷ placed cmp x ys)) (le_of (cmp x y) h.0)
+  placed-least x (y ∷ ys) h = ap (λ (b : Bool). cond b (x ∷ y ∷ ys) (y ∷ inserted cmp x ys)) (le_of (cmp x y) h.0)
 
-  filter-placed : (p : X → Bool) (x : X) (ys : List X) → Rises o ys → filter p (placed cmp x ys) ≡ cond (p x) (placed cmp x (filter p ys)) (filter p ys)
+  filter-placed : (p : X → Bool) (x : X) (ys : List X) → Rises o ys → filter p (inserted cmp x ys) ≡ cond (p x) (inserted cmp x (filter p ys)) (filter p ys)
   filter-placed p x [] r = refl
   filter-placed p x (y ∷ ys) r =
       let f = filter p ys in
-      elim (is_le (cmp x y)) as (λ b. is_le (cmp x y) ≡ b → filter p (cond b (x ∷ y ∷ ys) (y ∷ placed cmp x ys)) ≡ cond (p x) (placed cmp x (filter p (y ∷ ys))) (filter p (y ∷ ys))) [
+      elim (is_le (cmp x y)) as (λ b. is_le (cmp x y) ≡ b → filter p (cond b (x ∷ y ∷ ys) (y ∷ inserted cmp x ys)) ≡ cond (p x) (inserted cmp x (filter p (y ∷ ys))) (filter p (y ∷ ys))) [
         | true ↦ λ e.
             let le = not_gt (cmp x y) e in
             let all : IsLeast o x (y ∷ ys) = (le, IsLeast-below o x y ys le r.0) in
             ap (λ (l : List X). cond (p x) l (filter p (y ∷ ys))) (sym (placed-least x (filter p (y ∷ ys)) (IsLeast-filter p x (y ∷ ys) all)))
         | false ↦ λ e.
-            let rest : filter p (placed cmp x ys) ≡ cond (p x) (placed cmp x f) f = filter-placed p x ys r.1 in
-            let behind : placed cmp x (y ∷ f) ≡ y ∷ placed cmp x f = ap (λ (b : Bool). cond b (x ∷ y ∷ f) (y ∷ placed cmp x f)) e in
+            let rest : filter p (inserted cmp x ys) ≡ cond (p x) (inserted cmp x f) f = filter-placed p x ys r.1 in
+            let behind : inserted cmp x (y ∷ f) ≡ y ∷ inserted cmp x f = ap (λ (b : Bool). cond b (x ∷ y ∷ f) (y ∷ inserted cmp x f)) e in
             ap (λ (l : List X). cond (p y) (y ∷ l) l) rest
-            ∙ elim (p y) as (λ c. (let g = cond (p x) (placed cmp x f) f in cond c (y ∷ g) g) ≡ cond (p x) (placed cmp x (cond c (y ∷ f) f)) (cond c (y ∷ f) f)) [
-              | true ↦ elim (p x) as (λ c. y ∷ cond c (placed cmp x f) f ≡ cond c (placed cmp x (y ∷ f)) (y ∷ f)) [ true ↦ sym behind | false ↦ refl ]
+            ∙ elim (p y) as (λ c. (let g = cond (p x) (inserted cmp x f) f in cond c (y ∷ g) g) ≡ cond (p x) (inserted cmp x (cond c (y ∷ f) f)) (cond c (y ∷ f) f)) [
+              | true ↦ elim (p x) as (λ c. y ∷ cond c (inserted cmp x f) f ≡ cond c (inserted cmp x (y ∷ f)) (y ∷ f)) [ true ↦ sym behind | false ↦ refl ]
               | false ↦ refl
             ]
       ] refl
@@ -41,8 +41,8 @@ module _ {X : Type 0} {cmp : X → X → Ordering} (o : IsTotalOrder cmp) where
   filter-in_order p [] = refl
   filter-in_order p (x ∷ xs) =
       filter-placed p x (in_order cmp xs) (Rises-in_order o xs)
-      ∙ ap (λ (l : List X). cond (p x) (placed cmp x l) l) (filter-in_order p xs)
-      ∙ elim (p x) as (λ b. cond b (placed cmp x (in_order cmp (filter p xs))) (in_order cmp (filter p xs)) ≡ in_order cmp (cond b (x ∷ filter p xs) (filter p xs))) [ true ↦ refl | false ↦ refl ]
+      ∙ ap (λ (l : List X). cond (p x) (inserted cmp x l) l) (filter-in_order p xs)
+      ∙ elim (p x) as (λ b. cond b (inserted cmp x (in_order cmp (filter p xs))) (in_order cmp (filter p xs)) ≡ in_order cmp (cond b (x ∷ filter p xs) (filter p xs))) [ true ↦ refl | false ↦ refl ]
 
 -- to filter what f gives is to give what passes behind f
 pub filter-map : {X Y : Type 0} (p : Y → Bool) (f : X → Y) (xs : List X) → filter p (map f xs) ≡ map f (filter (λ x. p (f x)) xs)

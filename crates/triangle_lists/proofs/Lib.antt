@@ -16,3 +16,4 @@ pub mod EdgeCounts
 pub mod Rotations
 pub mod OnceLaws
 pub mod Filters
+pub mod HeldRingless

@@ -12,7 +12,7 @@ use Rattle.mesh_data.specs.declared.geometry.Tri.{Tri}
 use Rattle.mesh_data.specs.declared.rings.Ring.{Ring}
 use Rattle.mesh_data.specs.Manifold.{is_corner, HasRing, IsRinged, IsLeastRingless}
 use Rattle.mesh_data.specs.Triangles.{same_edge, has_corner}
-use Rattle.mesh_data.specs.Rings.{has_step, link, from_each_corner, IsRingOf}
+use Rattle.mesh_data.specs.Rings.{has_path_edge, link, from_each_corner, IsRingOf}
 use Rattle.triangle_lists.specs.Links.{behind_all}
 use Rattle.triangle_lists.proofs.Links.{link_is}
 
@@ -47,7 +47,7 @@ or_three false true c d = refl
 or_three false false c d = refl
 
 -- a name is a corner where a turned triangle starts at it
-any-corners : (v : ℕ) (ts : List Tri) → list_any (λ t. eqb t.a v) (flat_map from_each_corner ts) ≡ is_corner ts v
+pub any-corners : (v : ℕ) (ts : List Tri) → list_any (λ t. eqb t.a v) (flat_map from_each_corner ts) ≡ is_corner ts v
 any-corners v [] = refl
 any-corners v (t ∷ ts) =
     or_three (eqb t.a v) (eqb t.b v) (eqb t.c v) (list_any (λ s. eqb s.a v) (flat_map from_each_corner ts)) ∙ ap (λ (b : Bool). has_corner v t || b) (any-corners v ts)
@@ -64,9 +64,9 @@ any-behind p v (t ∷ ts) =
     ]
 
 -- the edges behind v in any order are the steps of its link
-same_link : (ts sorted : List Tri) (v : ℕ) (e : Edge) → IsPermutation (flat_map from_each_corner ts) sorted → has_step (behind_all v sorted) e ≡ has_step (link v ts) e
+same_link : (ts sorted : List Tri) (v : ℕ) (e : Edge) → IsPermutation (flat_map from_each_corner ts) sorted → has_path_edge (behind_all v sorted) e ≡ has_path_edge (link v ts) e
 same_link ts sorted v e moved =
-    any-behind (same_edge e) v sorted ∙ sym (list_any-IsPermutation (λ t. eqb t.a v && same_edge e (back_edge t)) (flat_map from_each_corner ts) sorted moved) ∙ sym (any-behind (same_edge e) v (flat_map from_each_corner ts)) ∙ ap (λ es. has_step es e) (sym (link_is v ts))
+    any-behind (same_edge e) v sorted ∙ sym (list_any-IsPermutation (λ t. eqb t.a v && same_edge e (back_edge t)) (flat_map from_each_corner ts) sorted moved) ∙ sym (any-behind (same_edge e) v (flat_map from_each_corner ts)) ∙ ap (λ es. has_path_edge es e) (sym (link_is v ts))
 
 -- turned is each triangle from each corner, in some order, and names are those at which one starts, ascending
 pub record AreNamesOf (ts turned : List Tri) (names : List ℕ) : Type 0 where
@@ -85,13 +85,13 @@ place_of ts turned names w are corner =
     (at.0, at.2, get_or_default names at.0 0 at.1 at.2 ∙ at.3 ∙ eqb-true at.1 w at.4)
 
 -- a ring of the edges behind v is one of its link, and back
-ring_here : (ts turned : List Tri) (v : ℕ) (es : List Edge) (r : Ring) → IsPermutation (flat_map from_each_corner ts) turned → es ≡ behind_all v turned → IsRingOf es r → IsRingOf (link v ts) r
+pub ring_here : (ts turned : List Tri) (v : ℕ) (es : List Edge) (r : Ring) → IsPermutation (flat_map from_each_corner ts) turned → es ≡ behind_all v turned → IsRingOf es r → IsRingOf (link v ts) r
 ring_here ts turned v es r moved is ring =
-    record { distinct = ring.distinct; long = ring.long; along = λ e. sym (ap (λ fs. has_step fs e) is ∙ same_link ts turned v e moved) ∙ ring.along e }
+    record { distinct = ring.distinct; long = ring.long; along = λ e. sym (ap (λ fs. has_path_edge fs e) is ∙ same_link ts turned v e moved) ∙ ring.along e }
 
-ring_there : (ts turned : List Tri) (v : ℕ) (es : List Edge) (r : Ring) → IsPermutation (flat_map from_each_corner ts) turned → es ≡ behind_all v turned → IsRingOf (link v ts) r → IsRingOf es r
+pub ring_there : (ts turned : List Tri) (v : ℕ) (es : List Edge) (r : Ring) → IsPermutation (flat_map from_each_corner ts) turned → es ≡ behind_all v turned → IsRingOf (link v ts) r → IsRingOf es r
 ring_there ts turned v es r moved is ring =
-    record { distinct = ring.distinct; long = ring.long; along = λ e. ap (λ fs. has_step fs e) is ∙ same_link ts turned v e moved ∙ ring.along e }
+    record { distinct = ring.distinct; long = ring.long; along = λ e. ap (λ fs. has_path_edge fs e) is ∙ same_link ts turned v e moved ∙ ring.along e }
 
 -- the first i names have rings
 abbrev pub Ringed : List Tri → List ℕ → ℕ → Type 0

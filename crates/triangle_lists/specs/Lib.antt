@@ -1,3 +1,4 @@
 pub mod Names
 pub mod Links
 pub mod Audit
+pub mod HeldAudit

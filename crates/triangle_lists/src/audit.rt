@@ -12,6 +12,7 @@ ghost use Rattle.triangle_lists.specs.Links.{behind_all};
 
 use crate::edge_sets::directed_list;
 use crate::rings::find_ring;
+use crate::turning::turned_on;
 use mesh_data::{Edge, Name, Shape, Tri};
 use std::alloc::{AllocError, Global};
 
@@ -28,7 +29,7 @@ fn first_pair(edges: &[Edge]) -> Option<Edge>
 }
 
 /// The least directed edge that two triangles have, if there is one.
-fn least_twice(alloc: Global, tris: &[Tri]) -> Result<Option<Edge>, AllocError>
+pub(crate) fn least_twice(alloc: Global, tris: &[Tri]) -> Result<Option<Edge>, AllocError>
     ensures found { IfOk result (λ e. IfSome e (IsLeastTwice tris.now)) }
     ensures none { IfOk result (λ e. IfNone e (IsEachEdgeOnce tris.now)) }
 {
@@ -38,24 +39,13 @@ fn least_twice(alloc: Global, tris: &[Tri]) -> Result<Option<Edge>, AllocError>
 }
 
 /// Each triangle, turned to start at each of its corners.
-fn corner_tris(alloc: Global, tris: &[Tri]) -> Result<Vec<Tri>, AllocError>
+pub(crate) fn corner_tris(alloc: Global, tris: &[Tri]) -> Result<Vec<Tri>, AllocError>
     ensures { IfOk result (λ turned. turned.items ≡ flat_map from_each_corner tris.now) }
 {
     let mut turned = Vec::new(alloc);
     for t in tris {
-        turned.extend_from_slice(&[
-            *t,
-            Tri {
-                a: t.b,
-                b: t.c,
-                c: t.a,
-            },
-            Tri {
-                a: t.c,
-                b: t.a,
-                c: t.b,
-            },
-        ])?;
+        let second = turned_on(t);
+        turned.extend_from_slice(&[*t, second, turned_on(&second)])?;
     }
     Ok(turned)
 }
@@ -79,7 +69,7 @@ fn first_names(alloc: Global, turned: &[Tri]) -> Result<Vec<Name>, AllocError>
 }
 
 /// The sorted triangles that start at v.
-fn starting_at(sorted: &[Tri], v: Name) -> &[Tri]
+pub(crate) fn starting_at(sorted: &[Tri], v: Name) -> &[Tri]
     requires { IsSorted tri_cmp sorted.now }
     ensures { result.now ≡ filter (λ t. t.a == v) sorted.now }
 {
@@ -100,7 +90,7 @@ fn sorted_link(alloc: Global, sorted: &[Tri], v: Name) -> Result<Vec<Edge>, Allo
 }
 
 /// Whether the edges behind v of the sorted triangles that start at v are the steps of a ring.
-fn has_ring(alloc: Global, sorted: &[Tri], v: Name) -> Result<bool, AllocError>
+pub(crate) fn has_ring(alloc: Global, sorted: &[Tri], v: Name) -> Result<bool, AllocError>
     requires { IsSorted tri_cmp sorted.now }
     ensures { IfOk result (λ b. IsTrue b ↔ ((r : Ring) × IsRingOf (behind_all v sorted.now) r)) }
 {

@@ -7,7 +7,8 @@ ghost use Rattle.std.specs.List.Sorted.{IsStrictlySortedBy};
 ghost use Rattle.mesh_data.specs.Triangles.{edge_cmp, directed_edges, has_edge, reversed, same_edge, undirected, undirected_edges};
 ghost use Rattle.mesh_data.specs.Triangles.{each_once};
 
-use mesh_data::{Edge, Edges, List, Tri};
+use mesh_data::{Edge, Edges, Tri};
+use oemm_lists::List;
 use std::alloc::{AllocError, Global};
 
 /// The edge from its other end.

@@ -3,13 +3,14 @@
 
 mod audit;
 mod edge_sets;
-mod laws;
+mod held_audit;
+pub mod laws;
 mod rings;
 mod turning;
 
 pub use audit::first_fault;
 pub use edge_sets::{border_list, count_undirected};
-pub use laws::{closed_ring_laws, edge_laws, edge_set_laws, order_laws, turn_laws};
+pub use held_audit::first_held_fault;
 pub use rings::{find_ring, has_closed_ring, link_of};
 pub use turning::{turned_in_order, turned_tri};
 

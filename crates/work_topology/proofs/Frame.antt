@@ -6,10 +6,10 @@ use Rattle.edit_laws.proofs.Locality.{AtCorners, corners_at, free_around}
 use Rattle.edit_laws.proofs.SeenEffects.{any-turned, get-with, held-collapsed, held-with, same_mesh, taking, touches_same}
 use Rattle.edit_laws.proofs.SeenVerdicts.{apex_held, get-seen, held_in}
 use Rattle.edit_steps.proofs.Passed.{PairPassed, collapse_passed, flip_passed, move_passed}
-use Rattle.edit_steps.proofs.Thinned.{least_of_all}
+use Rattle.edit_steps.proofs.Simplification.{least_of_all}
 use Rattle.face_rings.specs.Faces.{◌∈◌}
 use Rattle.flip_topology.proofs.Meshes.{is_flipped, with_flipped}
-use Rattle.mesh_data.specs.Edits.{AreLeastSteps, after, collapse_verdict, collapsed, collapsed_by, flip_verdict, flipped, is_done, is_free, is_held, move_verdict, moved, put_for, renamed, simplified, verdict}
+use Rattle.mesh_data.specs.Edits.{AreLeastSteps, after, collapse_verdict, collapsed, collapsed_by, flip_verdict, flipped, is_done, is_free, is_held, move_verdict, moved, substituted, renamed, simplified, verdict}
 use Rattle.mesh_data.specs.Links.{opposites}
 use Rattle.mesh_data.specs.Mesh.{Mesh}
 use Rattle.mesh_data.specs.Seen.{seen, touches}
@@ -19,7 +19,7 @@ use Rattle.mesh_data.specs.declared.edits.Edit.{Edit}
 use Rattle.mesh_data.specs.declared.edits.Edit.TheVariants.{Collapse, Flip, Move, Simplify}
 use Rattle.mesh_data.specs.declared.edits.Reply.{Reply}
 use Rattle.mesh_data.specs.declared.edits.Step.{Step}
-use Rattle.mesh_data.specs.declared.geometry.Point.{Point}
+use Rattle.oemm_octree.specs.declared.points.Point.{Point}
 use Rattle.mesh_data.specs.declared.geometry.Tri.{Tri}
 use Rattle.mesh_data.specs.declared.geometry.Vertex.{Vertex}
 use Rattle.std.proofs.Common.{Bool, List, None, Option, Some, [], ap, cond, eqb, eqb-true, false, ne_eqb, refl, sym, true, ℕ, ℤ, ◌||◌, ◌∙◌, ◌∷◌, ◌≡◌, ◌≢◌}
@@ -39,7 +39,7 @@ unfolding AtCorners
 none_held other m t h = λ i. h.0 i || (h.1 i || (h.2 i || false))
 
 -- with v for u
-at_renamed : (P : ℕ → Type 0) (u v : ℕ) (t : Tri) → P v → AtCorners P t → AtCorners P (put_for u v t)
+at_renamed : (P : ℕ → Type 0) (u v : ℕ) (t : Tri) → P v → AtCorners P t → AtCorners P (substituted u v t)
 unfolding AtCorners
 at_renamed P u v t pv at = (one t.a at.0, one t.b at.1, one t.c at.2)
   where
@@ -88,7 +88,7 @@ module _ (inside other : Point → Bool) (disjoint : (p : Point) → inside p �
       ∙ sym (get-seen other m w) in
       let tris = pass_collapsed u v (touches other m) (touches other m) m.tris good.sorted (turned_of m good.manifold) (record {
         gone = λ t i at. none_held other m t (apart_at m u pair.free t i at);
-        put = λ t i at. any-turned (is_held other m) (put_for u v t) ∙ none_held other m (put_for u v t) (at_renamed (λ w. is_held other m w ≡ false) u v t (held_apart m v pair.onto_held) (apart_at m u pair.free t i at));
+        put = λ t i at. any-turned (is_held other m) (substituted u v t) ∙ none_held other m (substituted u v t) (at_renamed (λ w. is_held other m w ≡ false) u v t (held_apart m v pair.onto_held) (apart_at m u pair.free t i at));
         others = λ t away. refl;
       }) in
       same_mesh (seen other n) (seen other m) (finite.same_map nat_cmp_total nat_cmp-IsAntisymmetric _ _ at)

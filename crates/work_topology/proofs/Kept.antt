@@ -4,9 +4,9 @@ use Rattle.std.proofs.lemmas.Bool.{or_right}
 use Rattle.std.proofs.lemmas.List.Folds.{list_any-append}
 use Rattle.std.proofs.lemmas.List.Sorted.{IsPermutation-refl}
 use Rattle.std.specs.List.Sorted.{IsSorted}
-use Rattle.mesh_data.specs.Ascending.{in_order}
+use Rattle.oemm_lists.specs.Ascending.{in_order}
 use Rattle.mesh_data.specs.declared.geometry.Tri.{Tri}
-use Rattle.mesh_data.specs.Edits.{collapsed_tris, flipped_tris, put_for}
+use Rattle.mesh_data.specs.Edits.{collapsed_tris, flipped_tris, substituted}
 use Rattle.mesh_data.specs.Links.{has_both}
 use Rattle.mesh_data.specs.Triangles.{corners, has_corner, star, tri_cmp, turned}
 use Rattle.triangle_lists.proofs.Filters.{filter-in_order, filter-map}
@@ -38,7 +38,7 @@ corner_in (s ∷ ts) u w t (inr j) at on =
 -- p passes no triangle with u, q none that was one, and both pass the same others
 pub record PassAlike (u v : ℕ) (p q : Tri → Bool) (ts : List Tri) : Type 0 where
   pub gone : (t : Tri) → t ∈ ts → has_corner u t ≡ true → p t ≡ false
-  pub put : (t : Tri) → t ∈ ts → has_corner u t ≡ true → q (turned (put_for u v t)) ≡ false
+  pub put : (t : Tri) → t ∈ ts → has_corner u t ≡ true → q (turned (substituted u v t)) ≡ false
   pub others : (t : Tri) → has_corner u t ≡ false → q t ≡ p t
 
 -- the same of the other triangles
@@ -47,10 +47,10 @@ rest_alike u v p q t ts alike = record { gone = λ s i. alike.gone s (inr i); pu
 
 -- the kept triangles with v for u, by the tests
 put_same : (u v : ℕ) (p q : Tri → Bool) (ts : List Tri) → PassAlike u v p q ts → AreTurned ts
-    → map (λ t. turned (put_for u v t)) (filter (λ t. q (turned (put_for u v t))) (filter (λ t. not (has_both u v t)) ts)) ≡ filter p ts
+    → map (λ t. turned (substituted u v t)) (filter (λ t. q (turned (substituted u v t))) (filter (λ t. not (has_both u v t)) ts)) ≡ filter p ts
 put_same u v p q [] alike turn = refl
 put_same u v p q (t ∷ ts) alike turn =
-    let put : Tri → Tri = λ t. turned (put_for u v t) in
+    let put : Tri → Tri = λ t. turned (substituted u v t) in
     let kept : Tri → Bool = λ t. not (has_both u v t) in
     let r : Tri → Bool = λ t. q (put t) in
     let rest = put_same u v p q ts (rest_alike u v p q t ts alike) turn.1 in
@@ -73,7 +73,7 @@ put_same u v p q (t ∷ ts) alike turn =
 pub pass_collapsed : (u v : ℕ) (p q : Tri → Bool) (ts : List Tri) → IsSorted tri_cmp ts → AreTurned ts → PassAlike u v p q ts → filter q (collapsed_tris u v ts) ≡ filter p ts
 unfolding collapsed_tris
 pass_collapsed u v p q ts sorted turn alike =
-    let put : Tri → Tri = λ t. turned (put_for u v t) in
+    let put : Tri → Tri = λ t. turned (substituted u v t) in
     let kept = filter (λ t. not (has_both u v t)) ts in
     filter-in_order tri_cmp_total q (map put kept)
     ∙ ap (in_order tri_cmp) (filter-map q put kept ∙ put_same u v p q ts alike turn)
@@ -111,7 +111,7 @@ pass_flipped a b c d p ts sorted first second gone =
 -- a collapse and a flip put the triangles in order
 pub collapsed_sorted : (u v : ℕ) (ts : List Tri) → IsSorted tri_cmp (collapsed_tris u v ts)
 unfolding collapsed_tris
-collapsed_sorted u v ts = IsSorted-in_order tri_cmp_total (map (λ t. turned (put_for u v t)) (filter (λ t. not (has_both u v t)) ts))
+collapsed_sorted u v ts = IsSorted-in_order tri_cmp_total (map (λ t. turned (substituted u v t)) (filter (λ t. not (has_both u v t)) ts))
 
 pub flipped_sorted : (a b c d : ℕ) (ts : List Tri) → IsSorted tri_cmp (flipped_tris a b c d ts)
 unfolding flipped_tris

@@ -6,7 +6,7 @@ use Rattle.mesh_data.specs.declared.edits.Edit.{Edit}
 use Rattle.mesh_data.specs.declared.edits.Edit.TheVariants.{Collapse, Flip, Move, Simplify}
 use Rattle.mesh_data.specs.declared.edits.Reply.{Reply}
 use Rattle.mesh_data.specs.declared.edits.Step.{Step}
-use Rattle.mesh_data.specs.declared.geometry.Point.{Point}
+use Rattle.oemm_octree.specs.declared.points.Point.{Point}
 use Rattle.mesh_data.specs.declared.geometry.Soup.{Soup}
 use Rattle.mesh_data.specs.Edits.{after, collapse_verdict, collapsed_by, collapsed, flip_verdict, flipped, flipped_tris, is_done, move_verdict, moved, simplified, verdict}
 use Rattle.mesh_data.specs.Links.{opposites}

@@ -6,12 +6,12 @@ use Rattle.edit_laws.proofs.Locality.{AtCorners, corners_at, free_around}
 use Rattle.edit_laws.proofs.SeenEffects.{get-with, held-collapsed, held-with, held_renamed, taking}
 use Rattle.edit_laws.proofs.SeenVerdicts.{apex_held, held_in}
 use Rattle.edit_steps.proofs.Passed.{PairPassed, collapse_passed, flip_passed, move_passed}
-use Rattle.edit_steps.proofs.Thinned.{least_of_all}
+use Rattle.edit_steps.proofs.Simplification.{least_of_all}
 use Rattle.face_rings.proofs.Borders.{contains_in}
 use Rattle.face_rings.proofs.Members.{filter_from}
 use Rattle.face_rings.specs.Faces.{◌∈◌}
 use Rattle.flip_topology.proofs.Meshes.{is_flipped, with_flipped}
-use Rattle.mesh_data.specs.Edits.{AreLeastSteps, after, collapse_verdict, collapsed, collapsed_by, flip_verdict, flipped, is_done, is_free, is_held, move_verdict, moved, put_for, renamed, simplified, verdict}
+use Rattle.mesh_data.specs.Edits.{AreLeastSteps, after, collapse_verdict, collapsed, collapsed_by, flip_verdict, flipped, is_done, is_free, is_held, move_verdict, moved, substituted, renamed, simplified, verdict}
 use Rattle.mesh_data.specs.Links.{opposites}
 use Rattle.mesh_data.specs.Mesh.{Mesh}
 use Rattle.mesh_data.specs.Seen.{touches}
@@ -21,7 +21,7 @@ use Rattle.mesh_data.specs.declared.edits.Edit.{Edit}
 use Rattle.mesh_data.specs.declared.edits.Edit.TheVariants.{Collapse, Flip, Move, Simplify}
 use Rattle.mesh_data.specs.declared.edits.Reply.{Reply}
 use Rattle.mesh_data.specs.declared.edits.Step.{Step}
-use Rattle.mesh_data.specs.declared.geometry.Point.{Point}
+use Rattle.oemm_octree.specs.declared.points.Point.{Point}
 use Rattle.mesh_data.specs.declared.geometry.Tri.{Tri}
 use Rattle.mesh_data.specs.declared.geometry.Vertex.{Vertex}
 use Rattle.std.proofs.Common.{Bool, List, None, Option, Some, [], ap, cond, false, ne_eqb, not, refl, subst, sym, true, ℕ, ℤ, ◌&&◌, ◌||◌, ◌∙◌, ◌∷◌, ◌≡◌, ◌≢◌}
@@ -96,7 +96,7 @@ module _ (inside : Point → Bool) where
         tris = pass_collapsed u v (is_rim inside m) (is_rim inside n) m.tris good.sorted (turned_of m good.manifold) (record {
           gone = λ t i at. whole_no_rim inside m t (whole_at inside m t (free_whole inside m u t pair.free i at));
           put = λ t i at. let all = free_whole inside m u t pair.free i at in
-              whole_no_rim inside n (turned (put_for u v t)) (all-turned (is_held inside n) (put_for u v t) (whole_at inside n (put_for u v t) (one t.a all.0, one t.b all.1, one t.c all.2)));
+              whole_no_rim inside n (turned (substituted u v t)) (all-turned (is_held inside n) (substituted u v t) (whole_at inside n (substituted u v t) (one t.a all.0, one t.b all.1, one t.c all.2)));
           others = stays;
         });
         vertices = λ t w on at.

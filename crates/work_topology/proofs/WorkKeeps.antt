@@ -2,14 +2,14 @@
 use Rattle.std.specs.FinMap as finite
 use Rattle.std.specs.FinSet as set
 use Rattle.collapse_topology.proofs.Meshes.{collapse_keeps}
-use Rattle.edit_steps.proofs.Thinned.{least_of_all}
+use Rattle.edit_steps.proofs.Simplification.{least_of_all}
 use Rattle.edit_steps.proofs.Vertices.{contains-changed, len-changed}
 use Rattle.mesh_data.specs.Keeps.{EachKeeps, Keeps}
 use Rattle.flip_topology.proofs.Meshes.{flip_keeps}
 use Rattle.mesh_data.specs.Edits.{AreLeastSteps, after, collapse_verdict, collapsed, collapsed_by, flip_verdict, flipped, is_done, move_verdict, moved, simplified, verdict}
 use Rattle.mesh_data.specs.Manifold.{IsManifold, IsTriangleOn}
 use Rattle.mesh_data.specs.Mesh.{Mesh}
-use Rattle.mesh_data.specs.Octree.{area_of, core_of, is_inside}
+use Rattle.oemm_octree.specs.Octree.{area_of, core_of, is_inside}
 use Rattle.mesh_data.specs.Triangles.{undirected_edges}
 use Rattle.mesh_data.specs.Work.{Did, do_task, play, wide_entry, work}
 use Rattle.mesh_data.specs.declared.edits.Edit.{Edit}
@@ -17,8 +17,8 @@ use Rattle.mesh_data.specs.declared.edits.Edit.TheVariants.{Collapse, Flip, Move
 use Rattle.mesh_data.specs.declared.edits.Reply.{Reply}
 use Rattle.mesh_data.specs.declared.edits.Step.{Step}
 use Rattle.mesh_data.specs.declared.edits.Task.{Task}
-use Rattle.mesh_data.specs.declared.geometry.Cell.{Cell}
-use Rattle.mesh_data.specs.declared.geometry.Point.{Point}
+use Rattle.oemm_octree.specs.declared.cells.Cell.{Cell}
+use Rattle.oemm_octree.specs.declared.points.Point.{Point}
 use Rattle.mesh_data.specs.declared.geometry.Tri.{Tri}
 use Rattle.mesh_data.specs.declared.geometry.Vertex.{Vertex}
 use Rattle.std.proofs.Common.{Bool, List, [], ap, cond, false, length, nat_lt, pos, refl, true, ℕ, ℤ, ◌+◌, ◌-ℤ◌, ◌∙◌, ◌∷◌, ◌≡◌}

@@ -2,7 +2,7 @@
 use Rattle.std.specs.Prelude.{◌≡◌, ℕ, Bool, true, not, ◌&&◌, Contains, List}
 use Rattle.std.specs.List.{filter, list_all}
 use Rattle.std.specs.FinMap as finite
-use Rattle.mesh_data.specs.declared.geometry.Point.{Point}
+use Rattle.oemm_octree.specs.declared.points.Point.{Point}
 use Rattle.mesh_data.specs.declared.geometry.Tri.{Tri}
 use Rattle.mesh_data.specs.Edits.{is_held}
 use Rattle.mesh_data.specs.Mesh.{Mesh}

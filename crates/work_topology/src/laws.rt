@@ -3,8 +3,8 @@
 ghost use Rattle.std.specs.Prelude.{◌≡◌, ℕ, Bool, List, true, false};
 ghost use Rattle.mesh_data.specs.declared.edits.Edit.{Edit};
 ghost use Rattle.mesh_data.specs.declared.edits.Task.{Task};
-ghost use Rattle.mesh_data.specs.declared.geometry.Cell.{Cell};
-ghost use Rattle.mesh_data.specs.declared.geometry.Point.{Point};
+ghost use Rattle.oemm_octree.specs.declared.cells.Cell.{Cell};
+ghost use Rattle.oemm_octree.specs.declared.points.Point.{Point};
 ghost use Rattle.mesh_data.specs.declared.geometry.Soup.{Soup};
 ghost use Rattle.mesh_data.specs.Edits.{after, moved, verdict};
 ghost use Rattle.mesh_data.specs.Keeps.{EachKeeps, Keeps};

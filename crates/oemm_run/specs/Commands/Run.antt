@@ -1,11 +1,11 @@
 -- What the command gives that does a script on a mesh. Its phases are mesh, shape, script, tasks, out and report.
 use Rattle.std.specs.Prelude.{◌≡◌, ℕ, ◌⊎◌, List, [], ◌∷◌}
-use Rattle.mesh_data.specs.declared.geometry.Cell.{Cell}
+use Rattle.oemm_octree.specs.declared.cells.Cell.{Cell}
 use Rattle.mesh_data.specs.declared.geometry.Soup.{Soup}
 use Rattle.mesh_data.specs.declared.edits.Task.{Task}
 use Rattle.mesh_data.specs.Manifold.{IsManifold}
 use Rattle.mesh_data.specs.Mesh.{start}
-use Rattle.mesh_data.specs.Octree.{root_cell}
+use Rattle.oemm_octree.specs.Octree.{root_cell}
 use Rattle.mesh_data.specs.Work.{Played}
 use Rattle.mesh_out.specs.declared.form.Form.{Form}
 use Rattle.mesh_out.specs.MeshBytes.{mesh_bytes}

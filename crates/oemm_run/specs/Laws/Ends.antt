@@ -5,7 +5,7 @@ use Rattle.mesh_data.specs.declared.geometry.Soup.{Soup}
 use Rattle.mesh_data.specs.declared.edits.Task.{Task}
 use Rattle.mesh_data.specs.declared.shapes.Shape.{Shape}
 use Rattle.mesh_data.specs.declared.shapes.Audit.TheVariants as audit
-use Rattle.mesh_data.specs.declared.items.MeshFault.{MeshFault}
+use Rattle.mesh_items.specs.declared.items.MeshFault.{MeshFault}
 use Rattle.mesh_data.specs.Manifold.{IsManifold, Audits}
 use Rattle.mesh_data.specs.Mesh.{start}
 use Rattle.edit_script.specs.declared.fault.ScriptFault.{ScriptFault}
@@ -16,7 +16,7 @@ use Rattle.oemm_run.specs.Outside.{Outside, AllCalm}
 use Rattle.oemm_run.specs.Phases.Mesh.{end_of_mesh}
 use Rattle.oemm_run.specs.Phases.Script.{end_of_script}
 use Rattle.oemm_run.specs.Soup.{soup_of}
-use Rattle.oemm_run.specs.Words.{order_of}
+use Rattle.oemm_words.specs.Words.{order_of}
 
 -- the command ended so, or for want of memory
 abbrev pub EndsAs : End → End → Type 0

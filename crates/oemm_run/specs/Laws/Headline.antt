@@ -12,13 +12,13 @@ use Rattle.commit_journal.specs.Text.{journal_text}
 use Rattle.edit_script.specs.Grammar.{script_of}
 use Rattle.oemm_run.specs.declared.end.End.{End}
 use Rattle.oemm_run.specs.declared.end.End.TheVariants.{Done}
-use Rattle.oemm_run.specs.declared.orders.Order.{Order}
-use Rattle.oemm_run.specs.declared.orders.Order.TheVariants.{Run}
+use Rattle.oemm_words.specs.declared.orders.Order.{Order}
+use Rattle.oemm_words.specs.declared.orders.Order.TheVariants.{Run}
 use Rattle.oemm_run.specs.Commands.Run.{Asked, one_leaf}
 use Rattle.oemm_run.specs.Outside.{Outside, Wrote}
 use Rattle.oemm_run.specs.Report.{summary}
 use Rattle.oemm_run.specs.Soup.{soup_of}
-use Rattle.oemm_run.specs.Words.{order_of}
+use Rattle.oemm_words.specs.Words.{order_of}
 
 -- the words are those of a run that asks for this
 abbrev pub AskFor : Option Order → Asked → Type 0

@@ -1,6 +1,6 @@
 -- What a command leaves of its objects.
 use Rattle.std.specs.Prelude.{◌≡◌, ℕ, ◌⊎◌, List, ⊤}
-use Rattle.fault_counts.specs.Told.{TakesSome, IsAtEnd, PutsFront}
+use Rattle.fault_counts.specs.Told.{TakesSome, IsAtEnd, PutsPrefix}
 use Rattle.mesh_data.specs.declared.geometry.Soup.{Soup}
 use Rattle.mesh_data.specs.Manifold.{IsManifold}
 use Rattle.mesh_data.specs.Mesh.{start}

@@ -2,8 +2,8 @@
 use Rattle.std.specs.Prelude.{◌≡◌, Result, Ok, Err, IfSome}
 use Rattle.fault_counts.specs.Told.{TakesSome}
 use Rattle.mesh_data.specs.declared.geometry.Soup.{Soup}
-use Rattle.mesh_data.specs.declared.items.MeshFault.{MeshFault}
-use Rattle.mesh_data.specs.declared.items.MeshFault.TheVariants as mesh
+use Rattle.mesh_items.specs.declared.items.MeshFault.{MeshFault}
+use Rattle.mesh_items.specs.declared.items.MeshFault.TheVariants as mesh
 use Rattle.oemm_run.specs.declared.end.End.{End}
 use Rattle.oemm_run.specs.declared.end.End.TheVariants.{ReadMesh, MeshText, Limit, Memory}
 use Rattle.oemm_run.specs.Outside.{Input, HasFailed}

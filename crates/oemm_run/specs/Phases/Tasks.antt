@@ -1,6 +1,6 @@
 -- The phase that does the tasks.
 use Rattle.std.specs.Prelude.{◌≡◌, ℕ, List, ⊤}
-use Rattle.mesh_data.specs.declared.geometry.Cell.{Cell}
+use Rattle.oemm_octree.specs.declared.cells.Cell.{Cell}
 use Rattle.mesh_data.specs.declared.geometry.Soup.{Soup}
 use Rattle.mesh_data.specs.declared.edits.Task.{Task}
 use Rattle.mesh_data.specs.declared.edits.Entry.{Entry}

@@ -3,7 +3,7 @@
 ghost use Rattle.oemm_run.specs.Commands.Run.{RunGives};
 
 use crate::end::End;
-use crate::io::{Io, Seen};
+use crate::io::{Commands, Io};
 use crate::phases::mesh::{end_of_mesh, read_mesh};
 use crate::phases::out::{end_of_out, write_out};
 use crate::phases::report::write_report;
@@ -22,7 +22,8 @@ pub fn run_script<M: Source, S: Source, O: Sink, R: Sink>(
     core: u32,
     io: Io<M, S, O, R>,
 ) -> (Io<M, S, O, R>, End)
-    ensures { RunGives (record { form = form; core = core }) (⟦<Io<M, S, O, R> as Seen>⟧.outside io) (⟦<Io<M, S, O, R> as Seen>⟧.outside result.0) result.1 }
+    ensures { RunGives (record { form = form; core = core })
+        (⟦<Io<M, S, O, R> as Commands>⟧.outside io) (⟦<Io<M, S, O, R> as Commands>⟧.outside result.0) result.1 }
 {
     let (mesh, soup) = read_mesh(alloc, io.mesh);
     let io = Io { mesh, ..io };

@@ -2,17 +2,18 @@
 
 ghost use Rattle.std.specs.Prelude.{◌≡◌, IfOk, IfSome};
 ghost use Rattle.fault_counts.specs.Counts.{TellsFailure};
-ghost use Rattle.mesh_data.specs.Reading.{soup};
+ghost use Rattle.mesh_items.specs.Reading.{soup};
 ghost use Rattle.oemm_run.specs.Outside.{input, HasTaken};
 ghost use Rattle.oemm_run.specs.Phases.Mesh.{end_of_mesh, ReadsMesh};
 ghost use Rattle.oemm_run.specs.Soup.{soup_of, limited, reading_in, GivesSoup, IsSoup};
 
-use super::front::take_front;
+use super::prefix::take_prefix;
 use super::soup::read_soup;
 use crate::end::End;
-use mesh_data::{MeshFault, Soup};
-use mesh_reading::MOST_MESH_BYTES;
+use mesh_data::Soup;
+use mesh_items::MeshFault;
 use oemm_io::{Headed, Source};
+use oemm_limits::MOST_MESH_BYTES;
 use oemm_lines::Lines;
 use off_reader::OffReader;
 use ply_reader::{PlyReader, is_ply};
@@ -36,7 +37,8 @@ pub fn end_of_mesh(fault: MeshFault) -> End
 /// The first fault of the text, `TooMany` where a limit is passed, `Read` where the source fails, and `Memory`.
 #[tactic(auto, using(crate::proofs::MeshPhase::reads_mesh))]
 pub fn read_mesh<M: Source>(alloc: Global, source: M) -> (M, Result<Soup, MeshFault>)
-    ensures { ReadsMesh (input (M.left source) (M.faults source)) (input (M.left result.0) (M.faults result.0)) result.1 }
+    ensures { ReadsMesh (input (M.left source) (M.faults source))
+        (input (M.left result.0) (M.faults result.0)) result.1 }
 {
     take_mesh(alloc, source)
 }
@@ -50,7 +52,7 @@ fn take_mesh<M: Source>(alloc: Global, mut source: M) -> (M, Result<Soup, MeshFa
     ensures cause { TellsFailure MeshFault.Read (M.faults source) (M.faults result.0) result.1 }
 {
     let mut front = [0; 3];
-    let Ok(count) = take_front(&mut source, &mut front) else {
+    let Ok(count) = take_prefix(&mut source, &mut front) else {
         return (source, Err(MeshFault::Read));
     };
     let is_ply = is_ply(&front[..count]);

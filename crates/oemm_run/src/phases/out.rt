@@ -34,7 +34,8 @@ pub fn write_out<O: Sink>(
     texts: &Texts,
 ) -> (O, Result<(), OutFault>)
     requires { IsWritable texts.now }
-    ensures { WritesMesh (output (O.held sink) (O.faults sink) (O.finished sink)) (output (O.held result.0) (O.faults result.0) (O.finished result.0))
+    ensures { WritesMesh (output (O.written sink) (O.faults sink) (O.finished sink))
+        (output (O.written result.0) (O.faults result.0) (O.finished result.0))
         (form_text form texts.now.points texts.now.faces) result.1 }
 {
     let points = texts.points.slice();

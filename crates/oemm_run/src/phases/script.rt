@@ -28,7 +28,8 @@ pub fn end_of_script(fault: ScriptFault) -> End
 /// The first fault of the text, `TooMany` where a limit is passed, `Read` where the source fails, and `Memory`.
 #[tactic(auto, using(crate::proofs::ScriptPhase::reads_script))]
 pub fn read_tasks<S: Source>(alloc: Global, source: S) -> (S, Result<Script, ScriptFault>)
-    ensures { ReadsScript (input (S.left source) (S.faults source)) (input (S.left result.0) (S.faults result.0)) result.1 }
+    ensures { ReadsScript (input (S.left source) (S.faults source))
+        (input (S.left result.0) (S.faults result.0)) result.1 }
 {
     read_script(alloc, source)
 }

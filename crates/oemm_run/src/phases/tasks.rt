@@ -15,9 +15,12 @@ ghost use Rattle.oemm_run.specs.Texts.{IsWritable};
 
 use crate::summary::put_summary;
 use commit_journal::journal_text;
-use mesh_data::{Bytes, Cell, Cells, Entries, List, Points, Task, Tris};
+use mesh_data::{Entries, Task, Tris};
 use mesh_model::PlainMesh;
 use mesh_out::renumber;
+use oemm_limits::MOST_ITEMS;
+use oemm_lists::{Bytes, List};
+use oemm_octree::{Cell, Cells, Points};
 use std::alloc::{AllocError, Global};
 
 /// What is written of the mesh that the tasks leave.
@@ -44,7 +47,6 @@ fn one_leaf(alloc: Global) -> Result<Cells, AllocError>
 }
 
 /// Does the tasks one by one, and answers the journal.
-#[tactic(auto, using(crate::proofs::Boxes::box_of))]
 fn play_tasks(
     alloc: Global,
     mesh: &mut PlainMesh,
@@ -69,7 +71,7 @@ fn play_tasks(
 fn faces_of(alloc: Global, mesh: &PlainMesh) -> Result<Tris, AllocError>
     ensures faces { IfOk result (λ faces. faces ≡ faces_of mesh.now) }
     ensures count { IfOk result (λ faces. length faces ≡ length mesh.now.tris) }
-    ensures few { IfOk result (λ faces. length faces ≤ 16777216) }
+    ensures few { IfOk result (λ faces. length faces ≤ MOST_ITEMS) }
     ensures below { IfOk result (All (IsBelow (length (points_of mesh.now)))) }
 {
     let names = mesh.names(alloc)?;

@@ -1,8 +1,8 @@
 use Rattle.std.proofs.Common.{[], ◌∷◌, ◌++◌, refl, ◌+◌, arith}
-use Rattle.mesh_data.specs.declared.items.ScriptWhy.TheVariants.{NoTask}
-use Rattle.mesh_data.specs.declared.items.What.TheVariants.{Tasks, Edits}
+use Rattle.oemm_limits.specs.declared.TheConstants.{MOST_EDITS, MOST_TASKS}
+use Rattle.edit_script.specs.declared.fault.ScriptWhy.TheVariants.{NoTask}
+use Rattle.oemm_limits.specs.declared.what.What.TheVariants.{Tasks, Edits}
 use Rattle.edit_script.specs.declared.fault.ScriptFault.TheVariants.{Syntax, TooMany}
-use Rattle.edit_script.specs.Grammar.{most_tasks, most_edits}
 use Rattle.edit_script.proofs.Tellings.{script_stops, none_in_order, refused_line, refused_first, refused_task, refused_edit}
 use Rattle.edit_script.proofs.laws.script_fault_laws.Goals as goal
 
@@ -16,8 +16,8 @@ returns-clause-no_task c = λ bytes later l edit short spoken says.
 
 pub returns-clause-tasks : goal.returns-clause-tasks
 returns-clause-tasks c = λ bytes lines later l tasks lane low high short spoken told full says.
-    script_stops bytes lines later l tasks (TooMany Tasks (most_tasks + 1)) short spoken told (refused_task l tasks lane low high says (omega (arith, full)))
+    script_stops bytes lines later l tasks (TooMany Tasks (MOST_TASKS + 1)) short spoken told (refused_task l tasks lane low high says (omega (arith, full)))
 
 pub returns-clause-edits : goal.returns-clause-edits
 returns-clause-edits c = λ bytes lines later l tasks task edit short spoken told full says.
-    script_stops bytes lines later l (tasks ++ task ∷ []) (TooMany Edits (most_edits + 1)) short spoken told (refused_edit l tasks task edit says (omega (arith, full)))
+    script_stops bytes lines later l (tasks ++ task ∷ []) (TooMany Edits (MOST_EDITS + 1)) short spoken told (refused_edit l tasks task edit says (omega (arith, full)))

@@ -2,7 +2,7 @@ use Rattle.std.proofs.Common.{◌++◌, [], Some, Ok, refl, ap, sym, ◌∙◌, 
 use Rattle.std.proofs.lemmas.Bool.{true≢false}
 use Rattle.std.proofs.lemmas.Result.{err_from_is_err_and}
 use Rattle.oemm_lines.specs.Stream.{flow_of}
-use Rattle.edit_script.specs.declared.held.HeldBytes.{HeldBytes}
+use Rattle.edit_script.specs.declared.byte_source.ByteSource.{ByteSource}
 use Rattle.edit_script.specs.Grammar.{tasks_of}
 use Rattle.edit_script.proofs.Readings.{tasks_passed, tasks_read, tasks_fault, tasks_none, script_of_short}
 use Rattle.edit_script.proofs.Flows.{fresh_flow, begins_there, line_told, line_given, none_told, never_read, fault_told}
@@ -25,7 +25,7 @@ loop-draft-init c =
 
 pub loop-draft-preserved : goal.loop-draft-preserved
 loop-draft-preserved c =
-    let gives = line_given (λ (h : HeldBytes). Some h.left.now) c.loop-draft.lines c.next.new.self c.in_ok-line.field-0 c.in-Some.line c.in-Some.is c.in_ok-line.ensures.gives in
+    let gives = line_given (λ (h : ByteSource). Some h.left.now) c.loop-draft.lines c.next.new.self c.in_ok-line.field-0 c.in-Some.line c.in-Some.is c.in_ok-line.ensures.gives in
     let told = line_told _ _ _ _ c.in-Some.is c.in_ok-line.ensures.says in
     let same = c.in_ok-line.ensures.same.0 in
     let before = c.loop-draft.invariant in
@@ -47,14 +47,14 @@ loop-draft-preserved c =
 
 pub loop-draft-smaller : goal.loop-draft-smaller
 loop-draft-smaller c =
-    let gives = line_given (λ (h : HeldBytes). Some h.left.now) c.loop-draft.lines c.next.new.self c.in_ok-line.field-0 c.in-Some.line c.in-Some.is c.in_ok-line.ensures.gives in
+    let gives = line_given (λ (h : ByteSource). Some h.left.now) c.loop-draft.lines c.next.new.self c.in_ok-line.field-0 c.in-Some.line c.in-Some.is c.in_ok-line.ensures.gives in
     let same = c.in_ok-line.ensures.same.0 in
     let before = c.loop-draft.invariant in
     omega (arith, gives.within, gives.rises, same, before.budget)
 
 pub read_line-requires-clause-number : goal.read_line-requires-clause-number
 read_line-requires-clause-number c =
-    let gives = line_given (λ (h : HeldBytes). Some h.left.now) c.loop-draft.lines c.next.new.self c.in_ok-line.field-0 c.in-Some.line c.in-Some.is c.in_ok-line.ensures.gives in
+    let gives = line_given (λ (h : ByteSource). Some h.left.now) c.loop-draft.lines c.next.new.self c.in_ok-line.field-0 c.in-Some.line c.in-Some.is c.in_ok-line.ensures.gives in
     let before = c.loop-draft.invariant in
     omega (arith, gives.count, before.count, before.place)
 

@@ -1,5 +1,5 @@
 use Rattle.std.proofs.Common.{◌≡◌, length}
-use Rattle.mesh_data.specs.Octree.{AreCells}
+use Rattle.oemm_octree.specs.Octree.{AreCells}
 use Rattle.mesh_model.proofs.tests.octree.Given as goal
 
 abbrev pub invariant-loop-x : goal.invariant-loop-x

@@ -5,7 +5,7 @@ use Rattle.mesh_out.proofs.block.flush.Given as goal
 
 abbrev pub invariant-loop-sink : goal.invariant-loop-sink
 invariant-loop-sink g l = record {
-  puts : PutsBefore (g.O.Sink.held l.initial.sink) (g.O.Sink.held l.sink) l.initial.block.left l.block.left;
+  puts : PutsBefore (g.O.Sink.written l.initial.sink) (g.O.Sink.written l.sink) l.initial.block.left l.block.left;
   open_still : StaysOpen (g.O.Sink.finished l.initial.sink) (g.O.Sink.finished l.sink);
   calm : g.O.Sink.faults l.sink ≡ g.O.Sink.faults l.initial.sink;
 }

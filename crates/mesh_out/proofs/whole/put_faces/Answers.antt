@@ -2,7 +2,7 @@ use Rattle.std.proofs.Common.{ap, ◌∙◌}
 use Rattle.mesh_data.specs.declared.geometry.Tri.{Tri}
 use Rattle.mesh_out.specs.Form.{form_face}
 use Rattle.mesh_out.specs.Stream.{Plan}
-use Rattle.mesh_out.proofs.Items.{puts_item, puts_front_of_items, on_any_error, next_face}
+use Rattle.mesh_out.proofs.Items.{puts_item, puts_prefix_of_items, on_any_error, next_face}
 use Rattle.mesh_out.proofs.whole.put_faces.Goals as goal
 
 pub loop-t-preserved : goal.loop-t-preserved
@@ -29,7 +29,7 @@ returns-in_err-put_face-clause-err g c =
     on_any_error
     c.from_residual.result
     (
-    puts_front_of_items
+    puts_prefix_of_items
     (form_face c.args.out.now.plan.form)
     c.args.faces.now
     c.loop-t.t-index

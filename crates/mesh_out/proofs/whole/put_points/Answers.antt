@@ -1,7 +1,7 @@
 use Rattle.std.proofs.Common.{ap, ◌∙◌, get_or, pos}
 use Rattle.mesh_out.specs.Form.{form_vertex}
 use Rattle.mesh_out.specs.Stream.{Plan}
-use Rattle.mesh_out.proofs.Items.{puts_item, puts_front_of_items, on_any_error, next_vertex}
+use Rattle.mesh_out.proofs.Items.{puts_item, puts_prefix_of_items, on_any_error, next_vertex}
 use Rattle.mesh_out.proofs.whole.put_points.Goals as goal
 
 pub loop-p-preserved : goal.loop-p-preserved
@@ -28,7 +28,7 @@ returns-in_err-vertex-clause-err g c =
     on_any_error
     c.from_residual.result
     (
-    puts_front_of_items
+    puts_prefix_of_items
     (form_vertex c.args.out.now.plan.form)
     c.args.points.now
     c.loop-p.p-index

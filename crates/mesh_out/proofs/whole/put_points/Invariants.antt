@@ -8,7 +8,7 @@ use Rattle.mesh_out.proofs.whole.put_points.Given as goal
 abbrev pub invariant-loop-p : goal.invariant-loop-p
 invariant-loop-p g l = record {
   plan : l.out.plan ≡ record l.initial.out.plan { vertices = l.initial.out.plan.vertices - l.p-index };
-  puts : PutsBefore (g.O.Sink.held l.initial.out.sink) (g.O.Sink.held l.out.sink) (l.initial.out.buffered ++ flat_map (form_vertex l.initial.out.plan.form) (take l.p-index l.points)) l.out.buffered;
+  puts : PutsBefore (g.O.Sink.written l.initial.out.sink) (g.O.Sink.written l.out.sink) (l.initial.out.buffered ++ flat_map (form_vertex l.initial.out.plan.form) (take l.p-index l.points)) l.out.buffered;
   open_still : StaysOpen (g.O.Sink.finished l.initial.out.sink) (g.O.Sink.finished l.out.sink);
   calm : g.O.Sink.faults l.out.sink ≡ g.O.Sink.faults l.initial.out.sink;
 }

@@ -4,14 +4,14 @@ use Rattle.std.proofs.lemmas.Result.{on_ok_weaker}
 use Rattle.fault_counts.specs.Told.{Puts}
 use Rattle.mesh_out.specs.Form.{form_vertex, form_face}
 use Rattle.mesh_out.specs.Stream.{Plan}
-use Rattle.mesh_out.proofs.Items.{puts_both, puts_front_of_both, puts_front_of_last}
+use Rattle.mesh_out.proofs.Items.{puts_both, puts_prefix_of_both, puts_prefix_of_last}
 use Rattle.mesh_out.proofs.whole.put_rest.Goals as goal
 
 pub returns-in-Err-put_faces-clause-front : goal.returns-in-Err-put_faces-clause-front
 returns-in-Err-put_faces-clause-front g c =
     let form = ap (λ (plan : Plan). plan.form) c.in_default.ensures.plan in
     rw c.into_sink-in-Err-put_faces.ensures (
-    puts_front_of_both
+    puts_prefix_of_both
     _
     _
     _
@@ -29,7 +29,7 @@ returns-clause-ok g c =
     let faces = rw form at c.in_default-put_faces.ensures.ok in
     on_ok_weaker
     c.end.result.1
-    (λ (all : Puts (g.O.Sink.held c.put_faces.new.out.sink) (g.O.Sink.held c.end.result.0) c.put_faces.new.out.buffered).
+    (λ (all : Puts (g.O.Sink.written c.put_faces.new.out.sink) (g.O.Sink.written c.end.result.0) c.put_faces.new.out.buffered).
     puts_both
     _
     _
@@ -48,7 +48,7 @@ returns-clause-ok g c =
 pub returns-clause-front : goal.returns-clause-front
 returns-clause-front g c =
     let form = ap (λ (plan : Plan). plan.form) c.in_default.ensures.plan in
-    puts_front_of_last
+    puts_prefix_of_last
     _
     _
     _

@@ -1,6 +1,6 @@
 use Rattle.std.proofs.Common.{ap, ◌∙◌}
 use Rattle.mesh_data.specs.Mesh.{points_of}
-use Rattle.mesh_data.specs.Reading.{soup}
+use Rattle.mesh_items.specs.Reading.{soup}
 use Rattle.mesh_out.specs.MeshBytes.{faces_of}
 use Rattle.mesh_round_trip.proofs.Wholes.{soup_of_whole}
 use Rattle.mesh_round_trip.proofs.Meshes.{mesh_writable}

@@ -1,5 +1,5 @@
 use Rattle.std.proofs.Common.{ap, ◌∙◌}
-use Rattle.mesh_data.specs.Reading.{soup}
+use Rattle.mesh_items.specs.Reading.{soup}
 use Rattle.mesh_round_trip.proofs.Wholes.{soup_of_whole}
 use Rattle.mesh_round_trip.proofs.Ply.{ply_read}
 use Rattle.mesh_round_trip.proofs.laws.ply_round_trip.Goals as goal

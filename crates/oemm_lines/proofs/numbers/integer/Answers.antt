@@ -10,43 +10,43 @@ returns-in_err-first-clause-cases c =
 pub returns-in_err-first-clause-value : goal.returns-in_err-first-clause-value
 returns-in_err-first-clause-value c = held_value _ _ (returns-in_err-first-clause-cases c)
 
-pub returns-in_err-whole-clause-cases : goal.returns-in_err-whole-clause-cases
-returns-in_err-whole-clause-cases c =
-    rw c.from_residual-in_err-whole.ensures
+pub returns-in_err-unsigned-clause-cases : goal.returns-in_err-unsigned-clause-cases
+returns-in_err-unsigned-clause-cases c =
+    rw c.from_residual-in_err-unsigned.ensures
     (integer_of-minus _ _ _ c.in_ok-first.ensures.cases.0 c.if-first-eq45.true
-    ∙ ap (option_map (λ n. neg_ℤ (pos n))) c.in_err-whole.ensures.cases)
+    ∙ ap (option_map (λ n. neg_ℤ (pos n))) c.in_err-unsigned.ensures.cases)
 
-pub returns-in_err-whole-clause-value : goal.returns-in_err-whole-clause-value
-returns-in_err-whole-clause-value c = held_value _ _ (returns-in_err-whole-clause-cases c)
+pub returns-in_err-unsigned-clause-value : goal.returns-in_err-unsigned-clause-value
+returns-in_err-unsigned-clause-value c = held_value _ _ (returns-in_err-unsigned-clause-cases c)
 
-pub returns-in_err-whole-2-clause-cases : goal.returns-in_err-whole-2-clause-cases
-returns-in_err-whole-2-clause-cases c =
-    rw c.from_residual-in_err-whole-2.ensures
+pub returns-in_err-unsigned-2-clause-cases : goal.returns-in_err-unsigned-2-clause-cases
+returns-in_err-unsigned-2-clause-cases c =
+    rw c.from_residual-in_err-unsigned-2.ensures
     (integer_of-plain _ _ _ c.in_ok-first.ensures.cases.0 c.if-first-eq45.false
-    ∙ ap (option_map pos) c.in_err-whole-2.ensures.cases)
+    ∙ ap (option_map pos) c.in_err-unsigned-2.ensures.cases)
 
-pub returns-in_err-whole-2-clause-value : goal.returns-in_err-whole-2-clause-value
-returns-in_err-whole-2-clause-value c = held_value _ _ (returns-in_err-whole-2-clause-cases c)
+pub returns-in_err-unsigned-2-clause-value : goal.returns-in_err-unsigned-2-clause-value
+returns-in_err-unsigned-2-clause-value c = held_value _ _ (returns-in_err-unsigned-2-clause-cases c)
 
-pub returns-in_ok-whole-clause-cases : goal.returns-in_ok-whole-clause-cases
-returns-in_ok-whole-clause-cases c =
-    let number = c.in_ok-whole.ensures.cases in (
+pub returns-in_ok-unsigned-clause-cases : goal.returns-in_ok-unsigned-clause-cases
+returns-in_ok-unsigned-clause-cases c =
+    let number = c.in_ok-unsigned.ensures.cases in (
       neg_ℤ (pos number.0),
       integer_of-minus _ _ _ c.in_ok-first.ensures.cases.0 c.if-first-eq45.true
           ∙ ap (option_map (λ n. neg_ℤ (pos n))) number.1,
-      (let same = c.held_below.ensures ∙ held_minus number.0 _ number.2 in search (arith, ints, to_z-of_z, same)),
+      (let same = c.clamped_below.ensures ∙ held_minus number.0 _ number.2 in search (arith, ints, to_z-of_z, same)),
     )
 
-pub returns-in_ok-whole-clause-value : goal.returns-in_ok-whole-clause-value
-returns-in_ok-whole-clause-value c = held_value _ _ (returns-in_ok-whole-clause-cases c)
+pub returns-in_ok-unsigned-clause-value : goal.returns-in_ok-unsigned-clause-value
+returns-in_ok-unsigned-clause-value c = held_value _ _ (returns-in_ok-unsigned-clause-cases c)
 
-pub returns-in_ok-whole-2-clause-cases : goal.returns-in_ok-whole-2-clause-cases
-returns-in_ok-whole-2-clause-cases c =
-    let number = c.in_ok-whole-2.ensures.cases in (
+pub returns-in_ok-unsigned-2-clause-cases : goal.returns-in_ok-unsigned-2-clause-cases
+returns-in_ok-unsigned-2-clause-cases c =
+    let number = c.in_ok-unsigned-2.ensures.cases in (
       pos number.0,
       integer_of-plain _ _ _ c.in_ok-first.ensures.cases.0 c.if-first-eq45.false ∙ ap (option_map pos) number.1,
-      (let same = c.held.ensures ∙ held_plain number.0 _ number.2 in search (arith, ints, to_z-of_z, same)),
+      (let same = c.clamped.ensures ∙ held_plain number.0 _ number.2 in search (arith, ints, to_z-of_z, same)),
     )
 
-pub returns-in_ok-whole-2-clause-value : goal.returns-in_ok-whole-2-clause-value
-returns-in_ok-whole-2-clause-value c = held_value _ _ (returns-in_ok-whole-2-clause-cases c)
+pub returns-in_ok-unsigned-2-clause-value : goal.returns-in_ok-unsigned-2-clause-value
+returns-in_ok-unsigned-2-clause-value c = held_value _ _ (returns-in_ok-unsigned-2-clause-cases c)

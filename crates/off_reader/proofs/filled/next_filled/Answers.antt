@@ -1,8 +1,8 @@
 use Rattle.std.proofs.Common.{rules, arith, ◌∙◌}
 use Rattle.fault_counts.proofs.InRow.{takes_some_more}
-use Rattle.mesh_data.specs.declared.items.MeshFault.TheVariants.{Read}
+use Rattle.mesh_items.specs.declared.items.MeshFault.TheVariants.{Read}
 use Rattle.oemm_lines.specs.Stream.{UsesSource}
-use Rattle.mesh_reading.proofs.Failures.{none_failed, uses_behind}
+use Rattle.mesh_items.proofs.Failures.{none_failed, uses_behind}
 use Rattle.off_reader.proofs.LineSteps.{skipped}
 use Rattle.off_reader.proofs.filled.next_filled.Goals as goal
 

@@ -1,7 +1,7 @@
 use Rattle.std.proofs.Common.{rules, ◌≡◌, ◌<◌, true, false, length, sym, ◌∙◌}
 use Rattle.off_reader.specs.Grammar.{mesh_reading}
 use Rattle.off_reader.specs.Reader.{counts_before}
-use Rattle.mesh_reading.proofs.Failures.{uses_more}
+use Rattle.mesh_items.proofs.Failures.{uses_more}
 use Rattle.off_reader.proofs.ItemSteps.{mesh_ended, head_refused, head_pops, ended_pops}
 use Rattle.off_reader.proofs.head.begin.Goals as goal
 

@@ -1,5 +1,5 @@
 use Rattle.std.proofs.Common.{◌+◌, arith}
-use Rattle.mesh_data.specs.declared.items.What.TheVariants.{Vertices, Faces}
+use Rattle.oemm_limits.specs.declared.what.What.TheVariants.{Vertices, Faces}
 use Rattle.off_reader.proofs.LineFaults.{count_missing, count_no_number, count_long, count_many, count_read, counts_read, vertices_refused, faces_refused}
 use Rattle.off_reader.proofs.laws.counts_laws.Goals as goal
 

@@ -1,9 +1,9 @@
 use Rattle.std.proofs.Common.{rules, ◌∙◌, sym, arith}
 use Rattle.fault_counts.proofs.InRow.{takes_some_more}
-use Rattle.mesh_reading.proofs.Failures.{none_failed, uses_behind}
+use Rattle.mesh_items.proofs.Failures.{none_failed, uses_behind}
 use Rattle.ply_reader.proofs.StepLaws.{passes_failed, fails_same}
 use Rattle.ply_reader.proofs.BodyLaws.{elements_next, elements_stop, elements_done}
-use Rattle.mesh_data.specs.declared.items.MeshFault.TheVariants.{Read}
+use Rattle.mesh_items.specs.declared.items.MeshFault.TheVariants.{Read}
 use Rattle.oemm_lines.specs.Stream.{UsesSource}
 use Rattle.ply_reader.proofs.body.elements_passed.Goals as goal
 

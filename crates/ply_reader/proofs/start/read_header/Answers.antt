@@ -1,4 +1,4 @@
-use Rattle.mesh_reading.proofs.Failures.{uses_more}
+use Rattle.mesh_items.proofs.Failures.{uses_more}
 use Rattle.ply_reader.proofs.start.read_header.Goals as goal
 
 pub returns-clause-uses : goal.returns-clause-uses

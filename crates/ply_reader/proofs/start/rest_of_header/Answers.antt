@@ -1,9 +1,9 @@
 use Rattle.std.proofs.Common.{rules, ◌∙◌, sym, arith}
 use Rattle.fault_counts.proofs.InRow.{takes_some_more}
-use Rattle.mesh_reading.proofs.Failures.{none_failed, uses_behind}
+use Rattle.mesh_items.proofs.Failures.{none_failed, uses_behind}
 use Rattle.ply_reader.proofs.LineSteps.{header_next, header_ends, header_on, header_cut, after_ends, layout_ends, layout_told, ends_same, ends_failed}
 use Rattle.std.proofs.lemmas.Grind.{common_steps}
-use Rattle.mesh_data.specs.declared.items.MeshFault.TheVariants.{Read}
+use Rattle.mesh_items.specs.declared.items.MeshFault.TheVariants.{Read}
 use Rattle.oemm_lines.specs.Stream.{UsesSource}
 use Rattle.ply_reader.proofs.start.rest_of_header.Goals as goal
 

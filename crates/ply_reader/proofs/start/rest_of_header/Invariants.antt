@@ -1,5 +1,6 @@
 use Rattle.std.proofs.Common.{◌≡◌, ◌-◌}
 use Rattle.std.specs.Option.{option_map}
+use Rattle.oemm_limits.specs.declared.TheConstants.{MOST_MESH_BYTES}
 use Rattle.fault_counts.specs.Told.{TakesSome}
 use Rattle.oemm_lines.specs.Stream.{left_of}
 use Rattle.ply_header.specs.Limits.{IsLimited}
@@ -16,4 +17,4 @@ invariant-loop-header g l = record {
 }
 
 abbrev pub decreases-loop-header : goal.decreases-loop-header
-decreases-loop-header g l = 8589934592 - l.feed.stream.at
+decreases-loop-header g l = MOST_MESH_BYTES - l.feed.stream.at

@@ -1,5 +1,5 @@
 use Rattle.std.proofs.Common.{◌∙◌, sym}
-use Rattle.mesh_data.specs.Octree.{is_inside}
+use Rattle.oemm_octree.specs.Octree.{is_inside}
 use Rattle.edit_steps.proofs.Lines.{collapse_by_pair, collapse_by_link}
 use Rattle.mesh_model.proofs.plain_mesh.PlainMesh.collapse_reply.Goals as goal
 

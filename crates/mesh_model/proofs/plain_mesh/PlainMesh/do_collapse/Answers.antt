@@ -3,7 +3,7 @@ use Rattle.std.specs.Int.{w128}
 use Rattle.mesh_data.specs.declared.edits.Edit.TheVariants.{Collapse}
 use Rattle.mesh_data.specs.declared.edits.Reply.{Reply}
 use Rattle.mesh_data.specs.Edits.{after}
-use Rattle.mesh_data.specs.Octree.{is_inside}
+use Rattle.oemm_octree.specs.Octree.{is_inside}
 use Rattle.edit_steps.proofs.Passed.{collapse_kept}
 use Rattle.mesh_model.proofs.plain_mesh.PlainMesh.do_collapse.Goals as goal
 use Rattle.mesh_model.proofs.plain_mesh.PlainMesh.do_collapse.Goals.{in-DoneAt+in_ok-collapse, in_default}

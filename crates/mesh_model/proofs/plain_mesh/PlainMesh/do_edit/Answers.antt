@@ -1,4 +1,4 @@
-use Rattle.mesh_data.specs.Octree.{is_inside}
+use Rattle.oemm_octree.specs.Octree.{is_inside}
 use Rattle.mesh_model.proofs.Kept.{edit_kept}
 use Rattle.mesh_model.proofs.plain_mesh.PlainMesh.do_edit.Goals as goal
 

@@ -1,5 +1,5 @@
 use Rattle.std.proofs.Common.{◌≡◌, ◌++◌, drop}
-use Rattle.mesh_data.specs.Octree.{is_inside}
+use Rattle.oemm_octree.specs.Octree.{is_inside}
 use Rattle.mesh_data.specs.Work.{work}
 use Rattle.mesh_model.proofs.plain_mesh.PlainMesh.do_edits.Given as goal
 

@@ -1,5 +1,5 @@
 use Rattle.std.proofs.Common.{◌∙◌, sym}
-use Rattle.mesh_data.specs.Octree.{is_inside}
+use Rattle.oemm_octree.specs.Octree.{is_inside}
 use Rattle.edit_steps.proofs.Passed.{ends_of_flip}
 use Rattle.mesh_model.proofs.plain_mesh.PlainMesh.do_flip.Goals as goal
 

@@ -5,7 +5,7 @@ use Rattle.std.specs.Ordering.{nat_cmp}
 use Rattle.mesh_data.specs.declared.geometry.Tri.{Tri}
 use Rattle.mesh_data.specs.declared.geometry.Vertex.{Vertex}
 use Rattle.mesh_data.specs.declared.planes.Plane.{Plane}
-use Rattle.mesh_data.specs.Ascending.{in_order}
+use Rattle.oemm_lists.specs.Ascending.{in_order}
 use Rattle.mesh_data.specs.Manifold.{IsTriangleOf}
 use Rattle.mesh_data.specs.Mesh.{Mesh, named_from, planes_at}
 use Rattle.mesh_data.specs.Triangles.{IsProper, IsBelow, tri_cmp, turned}

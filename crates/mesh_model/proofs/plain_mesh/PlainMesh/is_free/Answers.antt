@@ -1,7 +1,7 @@
 use Rattle.std.proofs.Common.{◌&&◌, ap, sym, ◌∙◌}
 use Rattle.std.specs.List.{list_all}
 use Rattle.mesh_data.specs.Edits.{is_held}
-use Rattle.mesh_data.specs.Octree.{is_inside}
+use Rattle.oemm_octree.specs.Octree.{is_inside}
 use Rattle.mesh_data.specs.Triangles.{neighbours}
 use Rattle.mesh_model.proofs.Stars.{neighbours_by_triangle}
 use Rattle.mesh_model.proofs.plain_mesh.PlainMesh.is_free.Goals as goal

@@ -3,7 +3,7 @@ use Rattle.std.specs.Int.{w128}
 use Rattle.std.proofs.lemmas.Int.{to_z-of_z}
 use Rattle.mesh_data.specs.declared.geometry.Tri.{Tri}
 use Rattle.mesh_data.specs.declared.edits.Reply.{Reply}
-use Rattle.mesh_data.specs.Octree.{is_inside}
+use Rattle.oemm_octree.specs.Octree.{is_inside}
 use Rattle.mesh_data.specs.Mesh.{Mesh}
 use Rattle.edit_steps.specs.Steps.{best_of, both_ways, answer_of}
 use Rattle.edit_steps.proofs.Tried.{best_is_least, best_more}

@@ -1,5 +1,5 @@
 use Rattle.std.proofs.Common.{◌≡◌, None, flat_map, take}
-use Rattle.mesh_data.specs.Octree.{is_inside}
+use Rattle.oemm_octree.specs.Octree.{is_inside}
 use Rattle.edit_steps.specs.Steps.{best_of, both_ways, answer_of}
 use Rattle.mesh_model.proofs.plain_mesh.PlainMesh.least_step.Given as goal
 

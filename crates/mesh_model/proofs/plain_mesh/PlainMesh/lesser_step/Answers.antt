@@ -1,5 +1,5 @@
 use Rattle.std.proofs.Common.{◌∙◌, sym}
-use Rattle.mesh_data.specs.Octree.{is_inside}
+use Rattle.oemm_octree.specs.Octree.{is_inside}
 use Rattle.edit_steps.proofs.Tried.{unbeaten}
 use Rattle.mesh_model.proofs.plain_mesh.PlainMesh.lesser_step.Goals as goal
 

@@ -3,8 +3,8 @@ use Rattle.std.specs.FinMap as finite
 use Rattle.std.specs.Int.{w128}
 use Rattle.std.proofs.lemmas.Int.{to_z-of_z}
 use Rattle.mesh_data.specs.Edits.{simplified}
-use Rattle.mesh_data.specs.Octree.{is_inside}
-use Rattle.edit_steps.proofs.Thinned.{made_by_steps}
+use Rattle.oemm_octree.specs.Octree.{is_inside}
+use Rattle.edit_steps.proofs.Simplification.{made_by_steps}
 use Rattle.mesh_model.proofs.plain_mesh.PlainMesh.simplify.Goals as goal
 
 pub returns-clause-mesh : goal.returns-clause-mesh

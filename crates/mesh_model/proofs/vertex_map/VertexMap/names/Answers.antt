@@ -14,8 +14,8 @@ loop-name-init c =
     ∙ sym (keys-from_ordered es c.keys-name-items.ensures.ordered) ∙ ap finite.keys c.self.view_is in
     record { can = tt; ends = tt; told = ap (λ ns. ns ++ c.into_iter-name-iterator.result) c.new-names.ensures ∙ all }
 
-pub push_name-requires : goal.push_name-requires
-push_name-requires c =
+pub add-requires : goal.add-requires
+add-requires c =
     let es = c.self.inside.vertices.entries in
     let told : c.loop-name.names ++ c.in-Some.name.now ∷ c.next.new.self ≡ keys_of es =
     ap (λ ns. c.loop-name.names ++ ns) (sym c.in-Some.ensures.steps) ∙ c.loop-name.invariant.told

@@ -25,15 +25,15 @@ returns-then-length-room-clause-gives g c =
       λ calm rest. shows_feed_past _ _ _ _ c.find_end.new.ahead rest c.in-Feed.length (omega (arith, found.0)) found.1 found.2 found.3 (omega arith),
     )
 
-pub returns-then-room-gt-LONGEST-clause-gives : goal.returns-then-room-gt-LONGEST-clause-gives
-returns-then-room-gt-LONGEST-clause-gives g c =
+pub returns-then-room-gt-MOST_LINE_BYTES-clause-gives : goal.returns-then-room-gt-MOST_LINE_BYTES-clause-gives
+returns-then-room-gt-MOST_LINE_BYTES-clause-gives g c =
     let found = rw c.in-Long.is at c.in_ok-length.ensures.found in (
       rw (← c.self.view_is) (record { left = sym c.in_ok-length.ensures.left; place = refl; count = refl }),
       λ calm rest. shows_long _ _ _ _ c.find_end.new.ahead rest c.min-limit.result found.0 found.1 (omega arith) (omega arith),
     )
 
-pub returns-else-room-gt-LONGEST-clause-gives : goal.returns-else-room-gt-LONGEST-clause-gives
-returns-else-room-gt-LONGEST-clause-gives g c =
+pub returns-else-room-gt-MOST_LINE_BYTES-clause-gives : goal.returns-else-room-gt-MOST_LINE_BYTES-clause-gives
+returns-else-room-gt-MOST_LINE_BYTES-clause-gives g c =
     let found = rw c.in-Long.is at c.in_ok-length.ensures.found in (
       rw (← c.self.view_is) (record { left = sym c.in_ok-length.ensures.left; place = refl; count = refl }),
       λ calm rest. shows_past _ _ _ _ c.find_end.new.ahead rest c.min-limit.result found.0 found.1 c.self.invariant.0 (omega arith) (omega arith),

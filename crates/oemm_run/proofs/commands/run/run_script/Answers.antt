@@ -19,14 +19,14 @@ returns-in-Err-written g c =
     let before : Outside = record {
       mesh = input (g.M.Source.left c.args.io.mesh) (g.M.Source.faults c.args.io.mesh);
       script = input (g.S.Source.left c.args.io.script) (g.S.Source.faults c.args.io.script);
-      out = output (g.O.Sink.held c.args.io.out) (g.O.Sink.faults c.args.io.out) (g.O.Sink.finished c.args.io.out);
-      report = output (g.R.Sink.held c.args.io.report) (g.R.Sink.faults c.args.io.report) (g.R.Sink.finished c.args.io.report);
+      out = output (g.O.Sink.written c.args.io.out) (g.O.Sink.faults c.args.io.out) (g.O.Sink.finished c.args.io.out);
+      report = output (g.R.Sink.written c.args.io.report) (g.R.Sink.faults c.args.io.report) (g.R.Sink.finished c.args.io.report);
     } in
     let after : Outside = record {
       mesh = input (g.M.Source.left c.read_mesh-mesh.result.0) (g.M.Source.faults c.read_mesh-mesh.result.0);
       script = input (g.S.Source.left c.read_tasks-script.result.0) (g.S.Source.faults c.read_tasks-script.result.0);
-      out = output (g.O.Sink.held c.write_out-out.result.0) (g.O.Sink.faults c.write_out-out.result.0) (g.O.Sink.finished c.write_out-out.result.0);
-      report = output (g.R.Sink.held c.args.io.report) (g.R.Sink.faults c.args.io.report) (g.R.Sink.finished c.args.io.report);
+      out = output (g.O.Sink.written c.write_out-out.result.0) (g.O.Sink.faults c.write_out-out.result.0) (g.O.Sink.finished c.write_out-out.result.0);
+      report = output (g.R.Sink.written c.args.io.report) (g.R.Sink.faults c.args.io.report) (g.R.Sink.finished c.args.io.report);
     } in
     let tasks = c.slice.result.now in
     let mesh = subst (ReadsMesh before.mesh after.mesh) c.in-Ok.is c.read_mesh-mesh.ensures in
@@ -46,14 +46,14 @@ returns-in-Err-written-2 g c =
     let before : Outside = record {
       mesh = input (g.M.Source.left c.args.io.mesh) (g.M.Source.faults c.args.io.mesh);
       script = input (g.S.Source.left c.args.io.script) (g.S.Source.faults c.args.io.script);
-      out = output (g.O.Sink.held c.args.io.out) (g.O.Sink.faults c.args.io.out) (g.O.Sink.finished c.args.io.out);
-      report = output (g.R.Sink.held c.args.io.report) (g.R.Sink.faults c.args.io.report) (g.R.Sink.finished c.args.io.report);
+      out = output (g.O.Sink.written c.args.io.out) (g.O.Sink.faults c.args.io.out) (g.O.Sink.finished c.args.io.out);
+      report = output (g.R.Sink.written c.args.io.report) (g.R.Sink.faults c.args.io.report) (g.R.Sink.finished c.args.io.report);
     } in
     let after : Outside = record {
       mesh = input (g.M.Source.left c.read_mesh-mesh.result.0) (g.M.Source.faults c.read_mesh-mesh.result.0);
       script = input (g.S.Source.left c.read_tasks-script.result.0) (g.S.Source.faults c.read_tasks-script.result.0);
-      out = output (g.O.Sink.held c.write_out-out.result.0) (g.O.Sink.faults c.write_out-out.result.0) (g.O.Sink.finished c.write_out-out.result.0);
-      report = output (g.R.Sink.held c.write_report-report.result.0) (g.R.Sink.faults c.write_report-report.result.0) (g.R.Sink.finished c.write_report-report.result.0);
+      out = output (g.O.Sink.written c.write_out-out.result.0) (g.O.Sink.faults c.write_out-out.result.0) (g.O.Sink.finished c.write_out-out.result.0);
+      report = output (g.R.Sink.written c.write_report-report.result.0) (g.R.Sink.faults c.write_report-report.result.0) (g.R.Sink.finished c.write_report-report.result.0);
     } in
     let tasks = c.slice.result.now in
     let mesh = subst (ReadsMesh before.mesh after.mesh) c.in-Ok.is c.read_mesh-mesh.ensures in
@@ -73,14 +73,14 @@ returns g c =
     let before : Outside = record {
       mesh = input (g.M.Source.left c.args.io.mesh) (g.M.Source.faults c.args.io.mesh);
       script = input (g.S.Source.left c.args.io.script) (g.S.Source.faults c.args.io.script);
-      out = output (g.O.Sink.held c.args.io.out) (g.O.Sink.faults c.args.io.out) (g.O.Sink.finished c.args.io.out);
-      report = output (g.R.Sink.held c.args.io.report) (g.R.Sink.faults c.args.io.report) (g.R.Sink.finished c.args.io.report);
+      out = output (g.O.Sink.written c.args.io.out) (g.O.Sink.faults c.args.io.out) (g.O.Sink.finished c.args.io.out);
+      report = output (g.R.Sink.written c.args.io.report) (g.R.Sink.faults c.args.io.report) (g.R.Sink.finished c.args.io.report);
     } in
     let after : Outside = record {
       mesh = input (g.M.Source.left c.read_mesh-mesh.result.0) (g.M.Source.faults c.read_mesh-mesh.result.0);
       script = input (g.S.Source.left c.read_tasks-script.result.0) (g.S.Source.faults c.read_tasks-script.result.0);
-      out = output (g.O.Sink.held c.write_out-out.result.0) (g.O.Sink.faults c.write_out-out.result.0) (g.O.Sink.finished c.write_out-out.result.0);
-      report = output (g.R.Sink.held c.write_report-report.result.0) (g.R.Sink.faults c.write_report-report.result.0) (g.R.Sink.finished c.write_report-report.result.0);
+      out = output (g.O.Sink.written c.write_out-out.result.0) (g.O.Sink.faults c.write_out-out.result.0) (g.O.Sink.finished c.write_out-out.result.0);
+      report = output (g.R.Sink.written c.write_report-report.result.0) (g.R.Sink.faults c.write_report-report.result.0) (g.R.Sink.finished c.write_report-report.result.0);
     } in
     let tasks = c.slice.result.now in
     let mesh = subst (ReadsMesh before.mesh after.mesh) c.in-Ok.is c.read_mesh-mesh.ensures in

@@ -1,10 +1,10 @@
 use Rattle.std.proofs.Common.{rules, arith, Err, ◌≡◌, ◌∙◌, ap, length, List, ℕ}
 use Rattle.ply_reader.proofs.FeedLaws.{cut_short}
 use Rattle.ply_reader.specs.Feed.{rest_left}
-use Rattle.mesh_data.specs.declared.items.MeshFault.TheVariants.{Read}
+use Rattle.mesh_items.specs.declared.items.MeshFault.TheVariants.{Read}
 use Rattle.oemm_lines.specs.Stream.{UsesSource}
 use Rattle.fault_counts.proofs.InRow.{takes_some_more}
-use Rattle.mesh_reading.proofs.Failures.{none_failed, uses_behind}
+use Rattle.mesh_items.proofs.Failures.{none_failed, uses_behind}
 use Rattle.ply_reader.proofs.feed.Feed.need.Goals as goal
 
 pub returns-then-more-eq0-clause-rest : goal.returns-then-more-eq0-clause-rest

@@ -1,9 +1,9 @@
 use Rattle.std.proofs.Common.{rules, arith, ◌∙◌, sym}
 use Rattle.fault_counts.proofs.InRow.{takes_some_more}
-use Rattle.mesh_reading.proofs.Failures.{none_failed, uses_behind}
+use Rattle.mesh_items.proofs.Failures.{none_failed, uses_behind}
 use Rattle.ply_reader.proofs.FeedLaws.{pass_step, pass_done}
 use Rattle.ply_reader.proofs.StepLaws.{fails_more, fails_same, passes_failed}
-use Rattle.mesh_data.specs.declared.items.MeshFault.TheVariants.{Read}
+use Rattle.mesh_items.specs.declared.items.MeshFault.TheVariants.{Read}
 use Rattle.oemm_lines.specs.Stream.{UsesSource}
 use Rattle.ply_reader.proofs.feed.Feed.pass.Goals as goal
 

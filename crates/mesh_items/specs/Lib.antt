@@ -1,0 +1,5 @@
+pub mod Reading
+pub mod Results
+pub mod Faults
+pub mod Faces
+pub mod Progress

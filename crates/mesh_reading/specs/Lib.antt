@@ -1,4 +1,0 @@
-pub mod Results
-pub mod Faults
-pub mod Faces
-pub mod Progress
