@@ -1,0 +1,20 @@
+use Rattle.std.proofs.Common.{◌≡◌, ◌∷◌, true, get_or, sym, ◌∙◌}
+use Rattle.std.proofs.lemmas.Bool.{eqb-true}
+use Rattle.std.proofs.lemmas.List.{get_or_default}
+use Rattle.link_test.specs.Links.{follows}
+use Rattle.link_test.proofs.Rounds.{follows_last, last_told, not_among}
+use Rattle.link_test.proofs.neighbours.name_before.Goals as goal
+
+pub returns-then-eq-clause-found : goal.returns-then-eq-clause-found
+returns-then-eq-clause-found c =
+    let ring = c.args.ring.now in
+    let last = c.in_ok-before.field-0.now in
+    let i = c.loop-name.name-index in
+    let name = c.name-item.result in
+    let at : get_or ring i 0 ≡ name = sym (get_or_default ring i name 0 c.loop-name-test.true) ∙ sym c.name-item.is in
+    let here : follows ring (get_or (last ∷ ring) i 0) (get_or ring i 0) ≡ true = follows_last ring last i (last_told ring last c.in_ok-before.ensures.value) c.loop-name-test.true in
+    let v_is : c.args.v ≡ get_or ring i 0 = sym (eqb-true name c.args.v (sym c.eq.ensures ∙ c.if-eq.true)) ∙ sym at in
+    (λ j. follows ring (c.loop-name.invariant.0 j) (v_is j)) ∙ here
+
+pub returns-clause-none : goal.returns-clause-none
+returns-clause-none c = not_among c.args.ring.now c.args.v c.loop-name.name-index c.loop-name-test.false c.loop-name.invariant.1
