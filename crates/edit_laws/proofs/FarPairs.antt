@@ -20,7 +20,7 @@ use Rattle.mesh_data.specs.Planes.{squares}
 use Rattle.mesh_data.specs.Triangles.{corners, has_corner, star, turned, tri_cmp}
 use Rattle.triangle_lists.proofs.Orders.{tri_cmp_total, tri_cmp-IsAntisymmetric}
 use Rattle.triangle_lists.proofs.Sorting.{in_order_from_sort}
-use Rattle.triangle_lists.specs.Names.{among}
+use Rattle.oemm_lists.specs.Numbers.{among}
 use Rattle.edit_laws.specs.Away.{AreTurned, IsAway}
 use Rattle.edit_laws.specs.Alike.{Alike, AlikeAround}
 use Rattle.edit_laws.proofs.Stars.{apart_from}

@@ -12,7 +12,7 @@ use Rattle.mesh_data.specs.declared.edits.Reply.TheVariants.{Done}
 use Rattle.mesh_data.specs.Edits.{is_done, is_held, is_free, move_verdict, moved}
 use Rattle.mesh_data.specs.Mesh.{Mesh, point_of, planes_of}
 use Rattle.mesh_data.specs.Triangles.{corners, has_corner, star, neighbours}
-use Rattle.triangle_lists.specs.Names.{among}
+use Rattle.oemm_lists.specs.Numbers.{among}
 use Rattle.edit_steps.proofs.Passed.{move_passed}
 use Rattle.edit_laws.specs.Held.{IsHeld, IsMoved}
 use Rattle.edit_laws.proofs.Locality.{among-other, corner_on, free_around}

@@ -11,7 +11,7 @@ use Rattle.mesh_data.specs.Edits.{first_line, if_any, is_held, is_free, pair_lin
 use Rattle.mesh_data.specs.Mesh.{Mesh}
 use Rattle.mesh_data.specs.Planes.{plane_of, folds, squares}
 use Rattle.mesh_data.specs.Triangles.{corners, has_corner, star, neighbours}
-use Rattle.triangle_lists.specs.Names.{among}
+use Rattle.oemm_lists.specs.Numbers.{among}
 use Rattle.triangle_lists.proofs.Filters.{find-filter}
 use Rattle.edit_steps.proofs.Lines.{link_lines, price_lines}
 use Rattle.edit_laws.specs.Alike.{Alike, AlikeAround}

@@ -18,7 +18,7 @@ use Rattle.mesh_data.specs.Triangles.{corners, has_corner, star}
 use Rattle.triangle_edits.proofs.Turns.{any_turns, ends_of, turns_to, to_has_both, to_has_third}
 use Rattle.edit_steps.specs.Lines.{refusal}
 use Rattle.edit_steps.proofs.Lines.{told_by_first, link_lines, price_lines, turn_lines}
-use Rattle.triangle_lists.specs.Names.{among}
+use Rattle.oemm_lists.specs.Numbers.{among}
 use Rattle.triangle_lists.proofs.Filters.{filter-weaker}
 use Rattle.edit_laws.specs.Alike.{Alike, AlikeAround}
 use Rattle.mesh_data.specs.Seen.{touches, seen}

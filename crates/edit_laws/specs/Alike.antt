@@ -4,7 +4,7 @@ use Rattle.oemm_octree.specs.declared.points.Point.{Point}
 use Rattle.mesh_data.specs.Edits.{is_held, point_or_origin, planes_or_none}
 use Rattle.mesh_data.specs.Mesh.{Mesh}
 use Rattle.mesh_data.specs.Triangles.{star, neighbours}
-use Rattle.triangle_lists.specs.Names.{among}
+use Rattle.oemm_lists.specs.Numbers.{among}
 
 -- two meshes show an area the same of a name: whether it is held, and where it lies if it is
 pub record Alike (inside : Point → Bool) (m n : Mesh) (w : ℕ) : Type 0 where

@@ -1,10 +1,10 @@
 -- The tasks with one more, and the numbers of the tasks of each lane.
-use Rattle.std.proofs.Common.{◌≡◌, ℕ, ◌+◌, ◌<◌, List, [], ◌∷◌, ◌++◌, length, refl, set, get_or, arith, ap, sym, ◌∙◌, cond, true, false, slice_index, replicate, Bool, ◌==◌, ◌≢◌, take, ◌⊎◌, inl, inr}
+use Rattle.std.proofs.Common.{◌≡◌, ℕ, ◌+◌, ◌<◌, ◌≤◌, List, [], ◌∷◌, ◌++◌, length, refl, set, get_or, arith, ap, sym, ◌∙◌, cond, true, false, slice_index, replicate, Bool, ◌==◌, ◌≢◌, take, ◌⊎◌, inl, inr}
 use Rattle.std.proofs.lemmas.List.Sums.{sum_by_push}
 use Rattle.std.proofs.lemmas.List.Elements.{All-push, All-nil}
 use Rattle.std.proofs.lemmas.List.{length-append, take_at, get_or_push, get_or_append_left, take-append-le, get_or-replicate, get_or-set_same, get_or-set_other}
 use Rattle.std.proofs.lemmas.Bool.{eqb-true, eq-eqb, cases_eq}
-use Rattle.oemm_limits.specs.declared.TheConstants.{MOST_TASKS}
+use Rattle.oemm_limits.specs.declared.TheConstants.{LAST_LANE, MOST_TASKS}
 use Rattle.oemm_octree.specs.declared.points.Point.{Point}
 use Rattle.mesh_data.specs.declared.edits.Task.{Task}
 use Rattle.edit_script.specs.Grammar.{lane_count}
@@ -13,7 +13,7 @@ use Rattle.edit_script.specs.Ranges.{IsDraft, IsTask, IsEdit, IsBox, AreNumbered
 -- no task was read
 pub draft_of_none : (tasks : List Task) → tasks ≡ [] → IsDraft (replicate 64 0) tasks
 draft_of_none [] h = record {
-  counts = λ lane below. get_or-replicate 64 lane 0 0 below;
+  counts = λ lane below. get_or-replicate 64 lane 0 0 (omega (arith, below));
   tasks = record { few = omega arith; each = All-nil IsTask; numbered = λ k d h. absurd (omega (arith, h)) };
 }
 draft_of_none (task ∷ tasks) h = cc
@@ -67,7 +67,7 @@ numbered_task tasks task n numbered k d h = by (cases_eq k (length tasks))
 
 -- a new task leaves what is kept
 pub kept_by_task :
-    (counts : List ℕ) (tasks : List Task) (lane number : ℕ) (low high : Point) → length counts ≡ 64 → lane < 64 → IsBox low high →
+    (counts : List ℕ) (tasks : List Task) (lane number : ℕ) (low high : Point) → length counts ≡ 64 → lane ≤ LAST_LANE → IsBox low high →
     length tasks < MOST_TASKS → number ≡ slice_index counts lane → IsDraft counts tasks →
     IsDraft (set counts lane (slice_index counts lane + 1))
     (tasks ++ record { lane = lane; number = number; low = low; high = high; edits = [] } ∷ [])
@@ -78,7 +78,7 @@ kept_by_task counts tasks lane number low high size below box room n kept =
       counts = λ other h.
           let more : lane_count other (tasks ++ task ∷ []) ≡ lane_count other tasks + cond (lane == other) 1 0
           = sum_by_push (λ (t : Task). cond (t.lane == other) 1 0) tasks task in
-          count_at counts tasks lane other h size (kept.counts other h) ∙ sym more;
+          count_at counts tasks lane other (omega (arith, h)) size (kept.counts other h) ∙ sym more;
       tasks = record {
         few = omega (arith, length-append {A = Task}, kept.tasks.few);
         each = All-push IsTask tasks task kept.tasks.each one;

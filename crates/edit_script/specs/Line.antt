@@ -51,7 +51,7 @@ triangles_of word = do
 abbrev pub is_box : Point → Point → Bool
 is_box low high = int_le low.x high.x && int_le low.y high.y && int_le low.z high.z
 
--- the task, where the lane is below 64 and the corners are those of a box
+-- the task, where there is such a lane and the corners are those of a box
 abbrev pub task_within : ℕ → Point → Point → Result LineMeaning ScriptWhy
 task_within lane low high =
     if nat_lt LAST_LANE lane then Err Lane else if is_box low high then Ok (TaskLine lane low high) else Err Box

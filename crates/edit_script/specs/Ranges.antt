@@ -50,9 +50,9 @@ pub record AreTasks (tasks : List Task) : Type 0 where
   pub each : All IsTask tasks
   pub numbered : AreNumbered tasks
 
--- these are the numbers of the tasks of the 64 lanes
+-- these are the numbers of the tasks of the lanes
 abbrev pub AreCounts : List ℕ → List Task → Type 0
-AreCounts counts tasks = (lane : ℕ) → lane < 64 → slice_index counts lane ≡ lane_count lane tasks
+AreCounts counts tasks = (lane : ℕ) → lane ≤ LAST_LANE → slice_index counts lane ≡ lane_count lane tasks
 
 -- what is held of the tasks that were read: how many each lane has
 pub record IsDraft (held : List ℕ) (read : List Task) : Type 0 where

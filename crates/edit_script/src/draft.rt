@@ -1,6 +1,6 @@
 //! The tasks of a script that is read line by line.
 
-ghost use Rattle.std.specs.Prelude.{◌≡◌, ◌<◌, ◌^◌, ℕ, List, OnOk, IfErr};
+ghost use Rattle.std.specs.Prelude.{◌≡◌, ◌<◌, ◌≤◌, ◌^◌, ℕ, List, OnOk, IfErr};
 ghost use Rattle.oemm_lines.specs.Stream.{texts_of, IsPlaced};
 ghost use Rattle.edit_script.specs.Line.{line_says};
 ghost use Rattle.edit_script.specs.Grammar.{with_task, with_edit, after_line};
@@ -10,18 +10,21 @@ ghost use Rattle.edit_script.specs.Script.{StopsBy};
 use crate::fault::{ScriptFault, ScriptWhy};
 use crate::line::{LineMeaning, line_meaning};
 use mesh_data::{Edit, Lane, Script, Task};
-use oemm_limits::{MOST_EDITS, MOST_TASKS, What};
+use oemm_limits::{LAST_LANE, MOST_EDITS, MOST_TASKS, What};
 use oemm_lines::Line;
 use oemm_lists::List;
 use oemm_octree::Point;
 use std::alloc::Global;
 use std::marker::Model;
 
+/// The number of lanes.
+const LANES: usize = LAST_LANE as usize + 1;
+
 /// The tasks read so far, and how many of them each lane has.
 #[derive(Drop)]
 pub struct Draft {
     tasks: Vec<Task>,
-    counts: [u32; 64],
+    counts: [u32; LANES],
 }
 
 impl Model for Draft {
@@ -45,7 +48,7 @@ impl Draft {
     {
         Draft {
             tasks: Vec::new(alloc),
-            counts: [0; 64],
+            counts: [0; LANES],
         }
     }
 
@@ -65,10 +68,10 @@ impl Draft {
         }
     }
 
-    /// Begins a task.
+    /// Begins a task, the number of which counts the tasks of its lane.
     #[tactic(auto, using(crate::proofs::Tasks::kept_by_task), unfolding(crate::specs::Grammar::with_task))]
     fn begin(&mut self, alloc: Global, lane: u8, low: Point, high: Point) -> Result<(), ScriptFault>
-        requires lane { lane < 64 }
+        requires lane { lane ≤ LAST_LANE }
         requires ordered { IsBox low high }
         ensures ok { OnOk result (with_task self.old lane low high ≡ Ok self.new) }
         ensures err { IfErr result (λ fault. StopsBy fault (with_task self.old lane low high)) }

@@ -22,7 +22,7 @@ pub enum LineMeaning {
     EditLine { edit: Edit },
 }
 
-/// The three words of a point.
+/// The words of the coordinates of a point, unread.
 #[derive(Clone, Copy)]
 struct PointWords<'a> {
     x: &'a [u8],
@@ -30,7 +30,7 @@ struct PointWords<'a> {
     z: &'a [u8],
 }
 
-/// The next word.
+/// The next word, or the fault of a line that ends too soon.
 fn word<'a>(words: &mut WordsLeft<'a>) -> Result<&'a [u8], ScriptWhy>
     ensures ok { IfOk result (λ w. words.old ≡ w.now ∷ words.new) }
     ensures err { IfErr result (λ why. (why ≡ ScriptWhy.Words) × (words.old ≡ [])) }

@@ -68,7 +68,7 @@ fn held_lines(alloc: Global, bytes: &[u8]) -> Result<Lines<ByteSource<'_>>, Allo
     }
 }
 
-/// The script of these bytes.
+/// Reads a script that is in memory.
 fn script_of_bytes(alloc: Global, bytes: &[u8]) -> Result<Script, ScriptFault>
     requires { length bytes.now ≤ 2 ^ 26 }
     ensures ok { IfOk result (λ script. script_of bytes.now ≡ Ok script.tasks) }

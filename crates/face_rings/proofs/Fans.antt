@@ -12,7 +12,7 @@ use Rattle.std.proofs.lemmas.Bool.{and_from, and_parts, false_from_ne_true, fals
 use Rattle.triangle_lists.proofs.Candidates.{same_answers}
 use Rattle.triangle_lists.proofs.EdgeSets.{same_edges}
 use Rattle.triangle_lists.proofs.Walks.{same_itself, step}
-use Rattle.triangle_lists.specs.Names.{among}
+use Rattle.oemm_lists.specs.Numbers.{among}
 
 -- ---- tests and members
 -- a step that the test finds is a member, and the converse

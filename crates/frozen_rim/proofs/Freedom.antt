@@ -12,22 +12,8 @@ use Rattle.std.specs.List.Sorted.{IsNonDecreasing, IsStrictlyIncreasing, IsBinar
 use Rattle.std.specs.Ordering.{nat_cmp}
 use Rattle.mesh_data.specs.declared.geometry.Tri.{Tri}
 use Rattle.mesh_data.specs.Triangles.{corners, has_corner, star, neighbours}
-use Rattle.triangle_lists.specs.Names.{among}
+use Rattle.oemm_lists.specs.Numbers.{among}
 use Rattle.frozen_rim.specs.Free.{is_free, is_mixed}
-
-pub ascending_rises : (ns : List ℕ) → IsStrictlyIncreasing ns → IsNonDecreasing ns
-ascending_rises ns up = non_decreasing_from_sorted ns (sorted_from_strictly_increasing ns up)
-
--- what a binary search among names that don't fall answers
-pub found_name : (ns : List ℕ) (w : ℕ) (r : Result ℕ ℕ) → IsNonDecreasing ns → IsBinarySearchResult (λ y. nat_cmp y w) ns r → is_ok r ≡ among w ns
-found_name ns w (Ok i) up at =
-    let found = searched ns w (Ok i) at (λ i j le lt. up i j 0 le lt) in
-    sym (list_any_at (λ x. eqb x w) ns i 0 found.0 (eq-eqb (get_or ns i 0) w found.1))
-found_name ns w (Err i) up at =
-    let parts = searched ns w (Err i) at (λ i j le lt. up i j 0 le lt) in
-    sym (list_any_none (λ x. eqb x w) ns (λ k d lt.
-    let same : get_or ns k d ≡ get_or ns k 0 = get_or_default ns k d 0 lt in
-    ne_eqb (get_or ns k d) w (λ e. elim (cases_lt k i) [ inl below ↦ let apart = parts.1 k below in omega arith | inr above ↦ let apart = parts.2 k above lt in omega arith ])))
 
 -- the names of these triangles
 three_names : (v : ℕ) (t : Tri) → among v (corners t) ≡ has_corner v t
@@ -81,13 +67,12 @@ free_by held v (t ∷ ts) on =
     by false b c at = ap (λ x. not (x || list_any (has_corner v) (filter (is_mixed held) ts))) (sym at)
 
 -- the held names without the corners of mixed triangles are the free ones
-pub free_names : (ts : List Tri) (held shown frozen others kept : List ℕ) (v : ℕ)
-    → shown ≡ held → others ≡ frozen → ((w : ℕ) → among w frozen ≡ among w (flat_map corners (filter (is_mixed held) ts)))
-    → kept ≡ filter (λ w. not (among w others)) shown → among v kept ≡ is_free ts held v
-free_names ts held shown frozen others kept v same seen members is =
+pub free_names : (ts : List Tri) (held frozen kept : List ℕ) (v : ℕ)
+    → ((w : ℕ) → among w frozen ≡ among w (flat_map corners (filter (is_mixed held) ts)))
+    → kept ≡ filter (λ w. not (among w frozen)) held → among v kept ≡ is_free ts held v
+free_names ts held frozen kept v members is =
     ap (among v) is
-    ∙ any-filter_same (λ w. eqb w v) (λ w. not (among w others)) (not (among v others)) (λ k e. ap (λ (w : ℕ). not (among w others)) (eqb-true k v e)) shown
-    ∙ (λ i. not (among v (seen i)) && among v (same i))
+    ∙ any-filter_same (λ w. eqb w v) (λ w. not (among w frozen)) (not (among v frozen)) (λ k e. ap (λ (w : ℕ). not (among w frozen)) (eqb-true k v e)) held
     ∙ ap (λ (b : Bool). not b && among v held) (members v ∙ corner_names v (filter (is_mixed held) ts))
     ∙ by (among v held) refl
   where
@@ -104,7 +89,7 @@ free_names ts held shown frozen others kept v same seen members is =
         and_false false = refl
 
 -- what is kept of ascending names ascends
-pub kept_rise : (held shown others kept : List ℕ) → shown ≡ held → IsStrictlyIncreasing held → kept ≡ filter (λ w. not (among w others)) shown → IsStrictlyIncreasing kept
-kept_rise held shown others kept same up is =
+pub kept_rise : (held others kept : List ℕ) → IsStrictlyIncreasing held → kept ≡ filter (λ w. not (among w others)) held → IsStrictlyIncreasing kept
+kept_rise held others kept up is =
     let p : ℕ → Bool = λ w. not (among w others) in
-    subst IsStrictlyIncreasing (sym (is ∙ ap (filter p) same)) (IsStrictlyIncreasing-filter p held up)
+    subst IsStrictlyIncreasing (sym is) (IsStrictlyIncreasing-filter p held up)

@@ -9,7 +9,7 @@ use Rattle.mesh_data.specs.declared.geometry.Edge.{Edge}
 use Rattle.mesh_data.specs.Rings.{has_path_edge}
 use Rattle.mesh_data.specs.Triangles.{same_edge}
 use Rattle.triangle_lists.proofs.Walks.{step, steps_to, steps_closed, same_itself}
-use Rattle.triangle_lists.specs.Names.{among}
+use Rattle.oemm_lists.specs.Numbers.{among}
 use Rattle.link_test.specs.Links.{follows}
 
 -- along the way

@@ -9,7 +9,7 @@ use Rattle.mesh_data.specs.RingChanges.{closed_ring}
 use Rattle.mesh_data.specs.Rings.{closed_path, from_each_corner, link, path_edges}
 use Rattle.mesh_data.specs.Triangles.{corners, has_corner, neighbours, star}
 use Rattle.triangle_lists.proofs.Walks.{step}
-use Rattle.triangle_lists.specs.Names.{among}
+use Rattle.oemm_lists.specs.Numbers.{among}
 use Rattle.triangle_edits.specs.Links.{is_shared, IsSharedBeside}
 use Rattle.triangle_edits.proofs.Least.{link_violation_is, link_violation_below, none_shared}
 use Rattle.triangle_edits.proofs.ThreeRings.{three_found}
@@ -95,11 +95,11 @@ module _ (ts : List Tri) (ring_u ring_v : List ℕ) (closed_v : Bool) (u v : ℕ
   lacks_none : among v ring_u ≡ false → ⊥
   lacks_none lacks = both_ways (among v ring_u) lacks (on_ring v (near_face ts u v are.differ are.near))
 
-  pub ahead_is : (ahead : Option ℕ) → IfSome ahead (λ w. follows ring_u v w ≡ true) → IfNone ahead (among v ring_u ≡ false) → apex ts u v ≡ ahead
+  ahead_is : (ahead : Option ℕ) → IfSome ahead (λ w. follows ring_u v w ≡ true) → IfNone ahead (among v ring_u ≡ false) → apex ts u v ≡ ahead
   ahead_is None found none = absurd (lacks_none none)
   ahead_is (Some c) found none = face_apex ts u v c (unique_on ts are.oriented) (face_of v c found)
 
-  pub behind_is : (behind : Option ℕ) → IfSome behind (λ w. follows ring_u w v ≡ true) → IfNone behind (among v ring_u ≡ false) → apex ts v u ≡ behind
+  behind_is : (behind : Option ℕ) → IfSome behind (λ w. follows ring_u w v ≡ true) → IfNone behind (among v ring_u ≡ false) → apex ts v u ≡ behind
   behind_is None found none = absurd (lacks_none none)
   behind_is (Some d) found none = face_apex ts v u d (unique_on ts are.oriented) (Face_back ts u d v (face_of d v found))
 
@@ -121,7 +121,7 @@ module _ (ts : List Tri) (ring_u ring_v : List ℕ) (closed_v : Bool) (u v : ℕ
         and_from (among x ring_v) (not (is_name ahead x || is_name behind x)) (on_other x (contains_near ts v x shared.1))
         (not_from_false (is_name ahead x || is_name behind x) ((λ i. is_name (sym ahead_at i) x || is_name (sym behind_at i) x) ∙ shared.2))
 
-    pub least_is : (least : Option ℕ) → IsLeastPassing (is_shared ring_v ahead behind) ring_u least → link_violation ts u v ≡ least
+    least_is : (least : Option ℕ) → IsLeastPassing (is_shared ring_v ahead behind) ring_u least → link_violation ts u v ≡ least
     least_is None none =
         elim (link_violation ts u v) as (λ o. link_violation ts u v ≡ o → o ≡ None) [
           | None ↦ λ _. refl
@@ -138,6 +138,14 @@ module _ (ts : List Tri) (ring_u ring_v : List ℕ) (closed_v : Bool) (u v : ℕ
               let same : x ≡ w = omega (arith, low, high) in
               ap (λ (n : ℕ). Some n) same
         ] refl
+
+  -- the name that violates the link condition, by what the walks on the first ring and among its names answer
+  pub violation_is : (ahead behind least : Option ℕ)
+      → IfSome ahead (λ w. follows ring_u v w ≡ true) → IfNone ahead (among v ring_u ≡ false)
+      → IfSome behind (λ w. follows ring_u w v ≡ true) → IfNone behind (among v ring_u ≡ false)
+      → IsLeastPassing (is_shared ring_v ahead behind) ring_u least → link_violation ts u v ≡ least
+  violation_is ahead behind least found none found' none' =
+      least_is ahead behind (ahead_is ahead found none) (behind_is behind found' none') least
 
   pub threes_are : (eqb (length ring_u) 3 && (closed_v && eqb (length ring_v) 3)) ≡ (is_closed_by_three ts u && is_closed_by_three ts v)
   threes_are =

@@ -4,7 +4,7 @@ use Rattle.mesh_data.specs.declared.geometry.Tri.{Tri}
 use Rattle.mesh_data.specs.Links.{are_neighbours, is_closed_by_three, link_violation}
 use Rattle.mesh_data.specs.RingChanges.{IsOriented, closed_ring}
 use Rattle.mesh_data.specs.Rings.{IsRing, closed_path, has_path_edge, path_edges}
-use Rattle.triangle_lists.specs.Names.{among}
+use Rattle.oemm_lists.specs.Numbers.{among}
 use Rattle.link_test.specs.declared.link.Link.{Link}
 use Rattle.link_test.specs.declared.link.Link.TheVariants.{Good, Shared, Closed}
 

@@ -2,7 +2,7 @@
 
 ghost use Rattle.std.specs.Prelude.{◌≡◌, false, true, Some, IfSome, IfNone, if◌then◌else◌};
 ghost use Rattle.triangle_edits.specs.Links.{is_shared};
-ghost use Rattle.triangle_lists.specs.Names.{among};
+ghost use Rattle.oemm_lists.specs.Numbers.{among};
 ghost use Rattle.link_test.specs.Links.{follows, lesser, IsLeastPassing};
 
 use mesh_data::Name;

@@ -46,7 +46,7 @@ pub struct Soup {
     pub faces: Tris,
 }
 
-/// A directed edge.
+/// The edge from `a` to `b`, as a triangle walks along it.
 #[derive(Clone, Copy, Debug, PartialEq, Eq, PartialOrd, Ord)]
 pub struct Edge {
     pub a: Name,

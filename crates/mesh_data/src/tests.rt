@@ -9,6 +9,9 @@ fn lists_and_sets_grow_and_copy(rt: HostRuntime) -> Result<(), Fail> {
     let mut names = NameSet::new(rt.alloc());
     assert!(rt; names.push(Name(7)).is_ok());
     assert_eq!(rt; names.copy(rt.alloc())?.slice(), [Name(7)].as_slice());
+    assert!(rt; names.has(Name(7)) && !names.has(Name(6)));
+    let other = NameSet::of(Names::from_vec(vec![in rt.alloc(); Name(9)]?));
+    assert!(rt; other.has(Name(9)) && !other.has(Name(7)));
     let mut edits = Edits::new(rt.alloc());
     let to = Point { x: 1, y: -2, z: 3 };
     assert!(rt; edits.push(Edit::Move { v: Name(7), to }).is_ok());

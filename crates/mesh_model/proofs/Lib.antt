@@ -1,10 +1,8 @@
 pub mod Stars
 pub mod Copies
-pub mod Stocks
 pub mod PlaneLists
 pub mod Starts
 pub mod Audits
-pub mod Shares
 pub mod StartOrder
 pub mod Sorted
 pub mod Kept

@@ -8,8 +8,8 @@ use Rattle.mesh_data.specs.declared.geometry.Tri.{Tri}
 use Rattle.mesh_data.specs.declared.planes.Plane.{Plane}
 use Rattle.mesh_data.specs.Mesh.{plane_at, planes_at}
 use Rattle.mesh_data.specs.Triangles.{IsProper, IsBelow, has_corner, star}
-use Rattle.mesh_model.specs.PlaneCounts.{is_bounded, large_of}
-use Rattle.mesh_model.proofs.Stocks.{none_large-push}
+use Rattle.plane_counts.specs.PlaneCounts.{is_bounded, large_of}
+use Rattle.plane_counts.proofs.Stocks.{none_large-push}
 
 -- a plane more in the list of the place i
 abbrev pub with_plane : Plane → ℕ → List (List Plane) → List (List Plane)

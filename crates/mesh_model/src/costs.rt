@@ -5,7 +5,7 @@ ghost use Rattle.std.specs.List.{find};
 ghost use Rattle.mesh_data.specs.Edits.{plane_in, folds_with, cost};
 ghost use Rattle.mesh_data.specs.Planes.{sums_of, most_planes};
 ghost use Rattle.mesh_data.specs.Quads.{sums_in};
-ghost use Rattle.mesh_model.specs.PlaneCounts.{large_of};
+ghost use Rattle.plane_counts.specs.PlaneCounts.{large_of};
 ghost use Rattle.oemm_plane.specs.PlaneBounds.{IsNormalBounded};
 
 use crate::plain_mesh::PlainMesh;

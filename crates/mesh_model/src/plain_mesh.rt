@@ -33,7 +33,7 @@ impl Model for PlainMesh {
     ghost use Rattle.mesh_data.specs.Manifold.{IsTriangleOf};
     ghost use Rattle.mesh_data.specs.Mesh.{Mesh, mesh_code};
     ghost use Rattle.mesh_data.specs.Triangles.{tri_cmp};
-    ghost use Rattle.mesh_model.specs.PlaneCounts.{HasPlanes};
+    ghost use Rattle.plane_counts.specs.PlaneCounts.{HasPlanes};
     ghost use Rattle.oemm_limits.specs.declared.TheConstants.{MOST_ITEMS};
 
     ghost Value = { Mesh };
@@ -69,7 +69,7 @@ impl PlainMesh {
         Ok(PlainMesh { vertices, tris })
     }
 
-    /// A copy.
+    /// An equal mesh. It takes time and memory of about the size of the mesh.
     pub(crate) fn copy(&self, alloc: Global) -> Result<PlainMesh, AllocError>
         ensures { IfOk result (λ copy. copy ≡ self.now) }
     {

@@ -4,7 +4,7 @@ ghost use Rattle.std.specs.Prelude.{◌≡◌, ℕ, ◌<◌, [], ◌∷◌, ◌+
 ghost use Rattle.std.specs.List.{count_by};
 ghost use Rattle.mesh_data.specs.Mesh.{plane_at, planes_at};
 ghost use Rattle.mesh_data.specs.Triangles.{IsProper, IsBelow};
-ghost use Rattle.mesh_model.specs.PlaneCounts.{is_bounded};
+ghost use Rattle.plane_counts.specs.PlaneCounts.{is_bounded};
 
 use mesh_data::{Name, Plane, Planes, Tri};
 use oemm_lists::List;

@@ -6,7 +6,7 @@ ghost use Rattle.std.specs.BTreeMap.{IsOrdered, values};
 ghost use Rattle.std.specs.Ordering.{nat_cmp};
 ghost use Rattle.std.specs.FinMap as finite;
 ghost use Rattle.mesh_data.specs.Mesh.{named_from, origin};
-ghost use Rattle.mesh_model.specs.Taken.{planes_in, taken_over};
+ghost use Rattle.plane_counts.specs.Taken.{planes_in, taken_over};
 
 use mesh_data::{Name, NameSet, Plane, Planes, Vertex};
 use oemm_lists::{Copied, List};

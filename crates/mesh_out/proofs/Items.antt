@@ -19,7 +19,7 @@ puts_item f xs i d start item {old} {mid} {new} {rest} {last} below is h k =
     let written = puts_more_before old mid new (start ++ flat_map f (take i xs)) rest item last h k in
     rw (take_more xs i d below, ← more, ← is) written
 
--- the next item was refused, and a front of what is written of all items was put
+-- the next item was refused, and a prefix of what is written of all items was put
 pub puts_prefix_of_items :
     {X : Type 0} (f : X → List ℕ) (xs : List X) (i : ℕ) (start : List ℕ) {old mid new : Told}
     {rest last : List ℕ} → PutsBefore old mid (start ++ flat_map f (take i xs)) rest →
@@ -69,7 +69,7 @@ puts_prefix_of_both old mid new start one two rest h i =
     let joined = append_assoc start one two in
     rw joined at (puts_prefix_behind old mid new (start ++ one) rest two h i)
 
--- a front of the start and the first text is one of them and the second
+-- a prefix of the start and the first text is one of them and the second
 pub puts_prefix_of_first :
     (old new : Told) (start one two : List ℕ) → PutsPrefix old new (start ++ one) →
     PutsPrefix old new (start ++ (one ++ two))

@@ -45,7 +45,7 @@ pub puts_all :
     Puts old new bytes
 puts_all old mid new bytes rest h i = rw h.parts (puts_more old mid new h.put rest h.puts i)
 
--- a front of the bytes and of what follows them was put
+-- a prefix of the bytes and of what follows them was put
 pub puts_prefix :
     (old new : Told) (bytes rest more : List ℕ) → PutsBefore old new bytes rest →
     PutsPrefix old new (bytes ++ more)
@@ -55,7 +55,7 @@ puts_prefix old new bytes rest more h =
     let whole : bytes ++ more ≡ h.put ++ (rest ++ more) = cc in
     (length h.put, rw whole (omega (arith, length-append h.put (rest ++ more))), rw (whole, take-append_seam h.put (rest ++ more)) h.puts)
 
--- a front of the rest and of what follows it was put
+-- a prefix of the rest and of what follows it was put
 pub puts_prefix_behind :
     (old mid new : Told) (bytes rest more : List ℕ) → PutsBefore old mid bytes rest →
     PutsPrefix mid new (rest ++ more) → PutsPrefix old new (bytes ++ more)
@@ -68,7 +68,7 @@ puts_prefix_behind old mid new bytes rest more h i =
       rw (whole, take-append-add h.put (rest ++ more) i.0) (puts_more old mid new h.put (take i.0 (rest ++ more)) h.puts i.2),
     )
 
--- a front of the bytes is a front of them with what follows
+-- a prefix of the bytes is a prefix of them with what follows
 pub front_of_more :
     (old new : Told) (bytes more : List ℕ) → PutsPrefix old new bytes → PutsPrefix old new (bytes ++ more)
 front_of_more old new bytes more i =

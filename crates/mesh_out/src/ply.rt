@@ -59,7 +59,7 @@ fn push_short(block: &mut Block, x: i16)
     block.push(&x.to_le_bytes());
 }
 
-/// A vertex.
+/// Puts the six bytes of a vertex.
 pub fn push_ply_vertex(block: &mut Block, p: &Point)
     requires { block.old.used + RECORD_ROOM ≤ BLOCK }
     ensures { block.new.left ≡ block.old.left ++ ply_vertex p.now }
@@ -78,7 +78,7 @@ fn push_int(block: &mut Block, i: u32)
     block.push(&i.to_le_bytes());
 }
 
-/// A face.
+/// Puts the count of three and the indices of a face.
 pub fn push_ply_face(block: &mut Block, t: &Tri)
     requires { block.old.used + RECORD_ROOM ≤ BLOCK }
     ensures { block.new.left ≡ block.old.left ++ ply_face t.now }

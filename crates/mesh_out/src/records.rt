@@ -51,7 +51,7 @@ pub fn push_head(block: &mut Block, form: Form, vertices: u32, faces: u32)
     }
 }
 
-/// A vertex.
+/// Puts a vertex in this form.
 pub fn push_vertex(block: &mut Block, form: Form, p: &Point)
     requires { block.old.used + RECORD_ROOM ≤ BLOCK }
     ensures { block.new.left ≡ block.old.left ++ form_vertex form p.now }
@@ -62,7 +62,7 @@ pub fn push_vertex(block: &mut Block, form: Form, p: &Point)
     }
 }
 
-/// A face.
+/// Puts a face in this form.
 pub fn push_face(block: &mut Block, form: Form, t: &Tri)
     requires { block.old.used + RECORD_ROOM ≤ BLOCK }
     ensures { block.new.left ≡ block.old.left ++ form_face form t.now }

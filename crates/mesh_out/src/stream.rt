@@ -136,7 +136,7 @@ impl<O: Sink> MeshOut<O> {
     /// Puts what waits, and finishes the sink, once all vertices and faces are written.
     ///
     /// # Errors
-    /// `Failed` where the sink fails. It then has a front of what waited, and is finished only if it
+    /// `Failed` where the sink fails. It then has a prefix of what waited, and is finished only if it
     /// was before.
     pub fn end(self) -> (O, Result<(), Failed>)
         requires vertices { self.plan.vertices ≡ 0 }

@@ -97,7 +97,7 @@ fn put_rest<O: Sink>(
 /// Writes the file of these points and faces, and finishes the sink.
 ///
 /// # Errors
-/// `Write` where the sink fails. It then has a front of the file, and is finished only if it was
+/// `Write` where the sink fails. It then has a prefix of the file, and is finished only if it was
 /// before. `Memory` where the block can't be had. The sink then comes back as it was.
 pub fn write_mesh<O: Sink>(
     alloc: Global,

@@ -15,7 +15,7 @@ takes_longer old (Some rest) bytes limit h i =
     let more : limit < length (bytes ++ rest) = omega (arith, length-append bytes rest) in
     subst (λ (told : Told). IsLongerThan told limit) (sym h) more
 
--- a front of the rest was put behind the front
+-- a prefix of the rest was put behind the first bytes
 pub puts_next :
     (old mid new : Told) (bytes : List ℕ) (at n : ℕ) → Puts old mid (take at bytes) →
     Puts mid new (take n (take (length bytes - at) (drop at bytes))) → Puts old new (take (at + n) bytes)

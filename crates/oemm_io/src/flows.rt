@@ -19,7 +19,7 @@ pub trait Source {
     /// How often it has failed.
     ghost faults: { Self → ℕ };
 
-    /// Fills a front of the buffer with the next bytes, and answers how many they are.
+    /// Fills the buffer from its start with the next bytes, and answers how many they are.
     ///
     /// # Errors
     /// `Failed` where the source fails. Then no byte was taken.
@@ -42,7 +42,7 @@ pub trait Sink {
     /// Whether a finish answered Ok and no byte was taken since.
     ghost finished: { Self → Bool };
 
-    /// Takes a front of the bytes, at least one where there is one, and answers how many.
+    /// Takes a prefix of the bytes, at least one where there is one, and answers how many.
     ///
     /// # Errors
     /// `Failed` where the sink fails. Then no byte was taken.

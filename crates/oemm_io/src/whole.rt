@@ -92,7 +92,7 @@ fn zeros(alloc: Global, count: usize) -> Result<Vec<u8>, AllocError>
 /// Puts all the bytes, and finishes the sink.
 ///
 /// # Errors
-/// `Failed` where the sink fails. It then has a front of the bytes, and is finished only if it was
+/// `Failed` where the sink fails. It then has a prefix of the bytes, and is finished only if it was
 /// before.
 pub fn put_all<O: Sink>(mut sink: O, bytes: &[u8]) -> (O, Result<(), Failed>)
     ensures ok { OnOk result.1 (Puts (O.written sink) (O.written result.0) bytes.now) }

@@ -28,6 +28,9 @@ pub const LAST_LANE: u8 = 63;
 /// The greatest depth of a cell of the octree.
 pub const MOST_DEPTH: u8 = 6;
 
+/// The greatest number of leaves of the octree, which is the number of cells of the greatest depth.
+pub const MOST_LEAVES: u32 = 1 << 18;
+
 /// The number of vertices up to which a leaf isn't cut, where the words ask for no other.
 pub const DEFAULT_CAP: u32 = 4096;
 

@@ -43,7 +43,7 @@ impl Ahead {
         })
     }
 
-    /// The bytes.
+    /// What was read ahead and isn't taken yet.
     pub fn bytes(&self) -> &[u8]
         ensures { result.now ≡ self.now }
     {

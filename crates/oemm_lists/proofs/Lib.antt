@@ -1,1 +1,3 @@
 pub mod Increasing
+pub mod Once
+pub mod Searches

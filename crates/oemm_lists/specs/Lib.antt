@@ -1,2 +1,3 @@
 pub mod Ascending
 pub mod TextLine
+pub mod Numbers

@@ -3,6 +3,7 @@
 ghost use Rattle.std.specs.Prelude.{◌≡◌, ◌<◌, [], ◌∷◌, ◌++◌, length, map, slice_get, Some, OnOk, OnErr, IfErr};
 ghost use Rattle.std.specs.List.Sorted.{IsStrictlyIncreasing};
 ghost use Rattle.oemm_lists.specs.Ascending.{IsAboveLast};
+ghost use Rattle.oemm_lists.specs.Numbers.{among};
 
 use crate::list::{Copied, List};
 use std::alloc::{AllocError, Global};
@@ -53,6 +54,14 @@ impl<T: Numbered> AscendingSet<T> {
         }
     }
 
+    /// The set of these items, which it takes over.
+    pub fn of(items: List<T>) -> Self
+        requires { IsStrictlyIncreasing (T.numbers items) }
+        ensures { result ≡ T.numbers items }
+    {
+        AscendingSet { items }
+    }
+
     /// The number of items.
     pub fn len(&self) -> usize
         ensures { result ≡ length self.now }
@@ -66,6 +75,17 @@ impl<T: Numbered> AscendingSet<T> {
         ensures { slice_get self.now place ≡ Some (T.number result) }
     {
         *self.items.at(place)
+    }
+
+    /// Whether the item is in the set. It takes time of about log N for N items.
+    pub fn has(&self, item: T) -> bool
+        ensures { result ≡ among (T.number item) self.now }
+    {
+        let number = item.number();
+        self.items
+            .slice()
+            .binary_search_by_key(&number, |other| other.number())
+            .is_ok()
     }
 
     /// The items, lent.

@@ -6,11 +6,14 @@ use Rattle.std.proofs.lemmas.Int.{ints}
 use Rattle.std.proofs.lemmas.Nat.{pow_pos}
 use Rattle.oemm_octree.specs.declared.points.Point.{Point}
 use Rattle.oemm_octree.specs.declared.cells.Cell.{Cell}
-use Rattle.oemm_octree.specs.Octree.{on_grid, from_low, place_at, is_between, cell_holds, cell_meets, IsAtMost, IsInPart, IsOnGrid}
+use Rattle.oemm_octree.specs.Octree.{on_grid, from_low, place_at, is_between, cell_holds, cell_meets, root_cell, IsAtMost, IsInPart, IsOnGrid}
 
 -- parts of k numbers each
 in_part : (k n m : ℕ) → 0 < k → n / k ≡ m → (m * k ≤ n) × (n < (m + 1) * k)
-in_part k n m some at = subst (λ (m : ℕ). (m * k ≤ n) × (n < (m + 1) * k)) at (div-mul-le_self n k, omega (arith, lt-div-mul-add {a = n} {b = k} some))
+in_part k n m some at = subst (λ (m : ℕ). (m * k ≤ n) × (n < (m + 1) * k)) at (
+  div-mul-le_self n k,
+  omega (arith, lt-div-mul-add {a = n} {b = k} some),
+)
 
 part_is : (k n m : ℕ) → 0 < k → m * k ≤ n → n < (m + 1) * k → n / k ≡ m
 part_is k n m some low high =
@@ -27,7 +30,8 @@ unfolding from_low
 from_low_is (pos n) on = omega (arith, ints)
 from_low_is (negsuc n) on = grind (arith, ints)
 
-on_grid_between : (low n high : ℤ) → on_grid low ≡ true → on_grid high ≡ true → low ≤ℤ n → n ≤ℤ high → on_grid n ≡ true
+pub on_grid_between : (low n high : ℤ) → on_grid low ≡ true → on_grid high ≡ true → low ≤ℤ n → n ≤ℤ high
+    → on_grid n ≡ true
 on_grid_between low n high on_low on_high above below = grind (arith, ints)
 
 -- the place of a coordinate
@@ -63,7 +67,8 @@ box_test : (low n high : ℤ) → low ≤ℤ n → n ≤ℤ high → int_le low 
 box_test low n high above below = grind (arith, ints)
 
 -- a part between two coordinates has one of the coordinates from the one to the other
-between_has : (depth place : ℕ) (low high : ℤ) → on_grid low ≡ true → on_grid high ≡ true → is_between depth low high place ≡ true
+between_has : (depth place : ℕ) (low high : ℤ) → on_grid low ≡ true → on_grid high ≡ true
+    → is_between depth low high place ≡ true
     → (n : ℤ) × (low ≤ℤ n) × (n ≤ℤ high) × (place_at depth n ≡ place)
 unfolding is_between place_at
 between_has depth place low high on_low on_high between =
@@ -83,11 +88,17 @@ between_has depth place low high on_low on_high between =
           let same = from_low_is n (on_grid_between low n high on_low on_high above under) in
           let at : from_low n ≡ place * k = omega (arith, ints) in
           (n, above, under, part_is k (from_low n) place some (omega arith) (omega arith))
-      | inr above ↦
-          (low, omega (arith, ints), le, part_is k (from_low low) place some above ((div-lt_iff_lt-mul some).0 (omega arith)))
+      | inr above ↦ (
+        low,
+        omega (arith, ints),
+        le,
+        part_is k (from_low low) place some above
+            ((div-lt_iff_lt-mul some).0 (omega arith)),
+      )
     ]
 
-has_between : (depth place : ℕ) (low n high : ℤ) → on_grid low ≡ true → on_grid high ≡ true → low ≤ℤ n → n ≤ℤ high → place_at depth n ≡ place → is_between depth low high place ≡ true
+has_between : (depth place : ℕ) (low n high : ℤ) → on_grid low ≡ true → on_grid high ≡ true → low ≤ℤ n
+    → n ≤ℤ high → place_at depth n ≡ place → is_between depth low high place ≡ true
 unfolding is_between place_at
 has_between depth place low n high on_low on_high above below at =
     let k = 2 ^ (16 - depth) in
@@ -97,43 +108,69 @@ has_between depth place low n high on_low on_high above below at =
     let same = from_low_is n (on_grid_between low n high on_low on_high above below) in
     let least = parts_ascend k (from_low low) (from_low n) some (omega (arith, ints)) in
     let most = parts_ascend k (from_low n) (from_low high) some (omega (arith, ints)) in
-    three_from (int_le low high) (leb (from_low low / k) place) (leb place (from_low high / k)) (box_test low n high above below)
+    three_from (int_le low high) (leb (from_low low / k) place) (leb place (from_low high / k))
+    (box_test low n high above below)
     (le-leb (from_low low / k) place (omega arith)) (le-leb place (from_low high / k) (omega arith))
 
 -- cells
-holds_at : (c : Cell) (p : Point) → place_at c.depth p.x ≡ c.x → place_at c.depth p.y ≡ c.y → place_at c.depth p.z ≡ c.z → cell_holds c p ≡ true
+pub holds_at : (c : Cell) (p : Point) → place_at c.depth p.x ≡ c.x → place_at c.depth p.y ≡ c.y
+    → place_at c.depth p.z ≡ c.z → cell_holds c p ≡ true
 holds_at c p x y z =
     three_from (eqb (place_at c.depth p.x) c.x) (eqb (place_at c.depth p.y) c.y) (eqb (place_at c.depth p.z) c.z)
     (eq-eqb (place_at c.depth p.x) c.x x) (eq-eqb (place_at c.depth p.y) c.y y) (eq-eqb (place_at c.depth p.z) c.z z)
 
-at_holds : (c : Cell) (p : Point) → cell_holds c p ≡ true → (place_at c.depth p.x ≡ c.x) × (place_at c.depth p.y ≡ c.y) × (place_at c.depth p.z ≡ c.z)
+pub at_holds : (c : Cell) (p : Point) → cell_holds c p ≡ true
+    → (place_at c.depth p.x ≡ c.x) × (place_at c.depth p.y ≡ c.y) × (place_at c.depth p.z ≡ c.z)
 at_holds c p holds =
-    let axes = three_parts (eqb (place_at c.depth p.x) c.x) (eqb (place_at c.depth p.y) c.y) (eqb (place_at c.depth p.z) c.z) holds in
-    (eqb-true (place_at c.depth p.x) c.x axes.0, eqb-true (place_at c.depth p.y) c.y axes.1, eqb-true (place_at c.depth p.z) c.z axes.2)
+    let axes = three_parts (eqb (place_at c.depth p.x) c.x) (eqb (place_at c.depth p.y) c.y)
+    (eqb (place_at c.depth p.z) c.z) holds in (
+      eqb-true (place_at c.depth p.x) c.x axes.0,
+      eqb-true (place_at c.depth p.y) c.y axes.1,
+      eqb-true (place_at c.depth p.z) c.z axes.2,
+    )
 
-pub holds_tells : (c : Cell) (p : Point) → IsOnGrid p → cell_holds c p ≡ true → IsInPart c.depth c.x p.x × IsInPart c.depth c.y p.y × IsInPart c.depth c.z p.z
+pub holds_tells : (c : Cell) (p : Point) → IsOnGrid p → cell_holds c p ≡ true
+    → IsInPart c.depth c.x p.x × IsInPart c.depth c.y p.y × IsInPart c.depth c.z p.z
 holds_tells c p on holds =
-    let at = at_holds c p holds in
-    (place_tells c.depth c.x p.x on.0 at.0, place_tells c.depth c.y p.y on.1 at.1, place_tells c.depth c.z p.z on.2 at.2)
+    let at = at_holds c p holds in (
+      place_tells c.depth c.x p.x on.0 at.0,
+      place_tells c.depth c.y p.y on.1 at.1,
+      place_tells c.depth c.z p.z on.2 at.2,
+    )
 
-pub holds_from : (c : Cell) (p : Point) → IsOnGrid p → IsInPart c.depth c.x p.x × IsInPart c.depth c.y p.y × IsInPart c.depth c.z p.z → cell_holds c p ≡ true
+pub holds_from : (c : Cell) (p : Point) → IsOnGrid p
+    → IsInPart c.depth c.x p.x × IsInPart c.depth c.y p.y × IsInPart c.depth c.z p.z → cell_holds c p ≡ true
 holds_from c p on inside =
-    holds_at c p (place_from c.depth c.x p.x on.0 inside.0) (place_from c.depth c.y p.y on.1 inside.1) (place_from c.depth c.z p.z on.2 inside.2)
+    holds_at c p (place_from c.depth c.x p.x on.0 inside.0) (place_from c.depth c.y p.y on.1 inside.1)
+    (place_from c.depth c.z p.z on.2 inside.2)
 
 pub meets_has : (c : Cell) (low high : Point) → IsOnGrid low → IsOnGrid high → cell_meets low high c ≡ true
     → (p : Point) × IsAtMost low p × IsAtMost p high × (cell_holds c p ≡ true)
 meets_has c low high on_low on_high meets =
-    let axes = three_parts (is_between c.depth low.x high.x c.x) (is_between c.depth low.y high.y c.y) (is_between c.depth low.z high.z c.z) meets in
+    let axes = three_parts (is_between c.depth low.x high.x c.x) (is_between c.depth low.y high.y c.y)
+    (is_between c.depth low.z high.z c.z) meets in
     let x = between_has c.depth c.x low.x high.x on_low.0 on_high.0 axes.0 in
     let y = between_has c.depth c.y low.y high.y on_low.1 on_high.1 axes.1 in
     let z = between_has c.depth c.z low.z high.z on_low.2 on_high.2 axes.2 in
     let p : Point = record { x = x.0; y = y.0; z = z.0 } in
     (p, (x.1, y.1, z.1), (x.2, y.2, z.2), holds_at c p x.3 y.3 z.3)
 
-pub has_meets : (c : Cell) (low high p : Point) → IsOnGrid low → IsOnGrid high → IsAtMost low p → IsAtMost p high → cell_holds c p ≡ true → cell_meets low high c ≡ true
+pub has_meets : (c : Cell) (low high p : Point) → IsOnGrid low → IsOnGrid high → IsAtMost low p
+    → IsAtMost p high → cell_holds c p ≡ true → cell_meets low high c ≡ true
 has_meets c low high p on_low on_high above below holds =
     let at = at_holds c p holds in
-    three_from (is_between c.depth low.x high.x c.x) (is_between c.depth low.y high.y c.y) (is_between c.depth low.z high.z c.z)
+    three_from (is_between c.depth low.x high.x c.x) (is_between c.depth low.y high.y c.y)
+    (is_between c.depth low.z high.z c.z)
     (has_between c.depth c.x low.x p.x high.x on_low.0 on_high.0 above.0 below.0 at.0)
     (has_between c.depth c.y low.y p.y high.y on_low.1 on_high.1 above.1 below.1 at.1)
     (has_between c.depth c.z low.z p.z high.z on_low.2 on_high.2 above.2 below.2 at.2)
+
+-- the cube has the points of the grid
+whole_axis : (n : ℤ) → on_grid n ≡ true → IsInPart 0 0 n
+whole_axis n on = let same = from_low_is n on in let parts = on_both n on in (omega (arith, ints), omega (arith, ints))
+  where
+    on_both : (n : ℤ) → on_grid n ≡ true → (negsuc 32767 ≤ℤ n) × (n ≤ℤ pos 32767)
+    on_both n on = (grind (arith, ints), grind (arith, ints))
+
+pub root_holds : (p : Point) → IsOnGrid p → cell_holds root_cell p ≡ true
+root_holds p on = holds_from root_cell p on (whole_axis p.x on.0, whole_axis p.y on.1, whole_axis p.z on.2)

@@ -1,1 +1,11 @@
 pub mod CellParts
+pub mod Weights
+pub mod Tilings
+pub mod CoreHomes
+pub mod Each
+pub mod Ranks
+pub mod Numbers
+pub mod Walks
+pub mod Steps
+pub mod Searches
+pub mod Counting

@@ -1,5 +1,5 @@
 -- The octree over the cube of the grid, whose coordinates are -32768 to 32767 along each axis.
-use Rattle.std.specs.Prelude.{◌≡◌, ℕ, ◌≤◌, ◌<◌, ◌+◌, ◌-◌, ◌*◌, ◌/◌, ◌^◌, Bool, true, ◌&&◌, ◌==◌, nat_le, int_le, ℤ, pos, negsuc, ◌+ℤ◌, ◌≤ℤ◌, ◌<ℤ◌, List, [], ◌∷◌, if◌then◌else◌, slice_get}
+use Rattle.std.specs.Prelude.{◌≡◌, ℕ, ◌≤◌, ◌+◌, ◌-◌, ◌*◌, ◌/◌, ◌^◌, Bool, true, ◌&&◌, ◌==◌, nat_le, int_le, ℤ, pos, negsuc, ◌+ℤ◌, ◌≤ℤ◌, ◌<ℤ◌, List, [], ◌∷◌, if◌then◌else◌, slice_get}
 use Rattle.std.specs.List.{All, list_any, filter_map}
 use Rattle.oemm_limits.specs.declared.TheConstants.{MOST_DEPTH}
 use Rattle.oemm_octree.specs.declared.points.Point.{Point}
@@ -30,10 +30,6 @@ from_low (negsuc n) = 32767 - n
 -- cells that an octree can have
 abbrev pub AreCells : List Cell → Type 0
 AreCells cells = All (λ c. c.depth ≤ MOST_DEPTH) cells
-
--- leaves among so many
-abbrev pub AreLeaves : ℕ → List ℕ → Type 0
-AreLeaves n leaves = All (λ leaf. leaf < n) leaves
 
 -- the place, among the 2^depth parts of an axis, of the part that has the coordinate
 unfoldable pub place_at : ℕ → ℤ → ℕ

@@ -1,7 +1,7 @@
 //! The leaves that a box meets, and the points that lie in them.
 
 ghost use Rattle.std.specs.Prelude.{◌≡◌, ◌<◌, ◌^◌, [], ◌∷◌, ◌++◌, length, slice_get, IfOk, OnOk};
-ghost use Rattle.oemm_octree.specs.Octree.{AreCells, AreLeaves, core_of, area_of, is_inside};
+ghost use Rattle.oemm_octree.specs.Octree.{AreCells, core_of, area_of, is_inside};
 
 use crate::cells::{Cell, Cells};
 use crate::leaves::{LeafNo, LeafSet};
@@ -48,12 +48,7 @@ impl Area {
     pub fn holds(&self, p: &Point) -> bool
         ensures { result ≡ is_inside self.now p.now }
     {
-        for cell in &self.cells {
-            if cell.holds(p) {
-                return true;
-            }
-        }
-        false
+        self.cells.iter().any(|cell| cell.holds(p))
     }
 }
 
@@ -69,8 +64,7 @@ pub fn core_leaves(
 ) -> Result<LeafSet, AllocError>
     requires octree { AreCells cells.now }
     requires few { length cells.now < 2 ^ 32 }
-    ensures core { IfOk result (λ core. core ≡ core_of cells.now low.now high.now) }
-    ensures leaves { IfOk result (λ core. AreLeaves (length cells.now) core) }
+    ensures { IfOk result (λ core. core ≡ core_of cells.now low.now high.now) }
 {
     let mut core = LeafSet::new(alloc);
     for (leaf, cell) in cells.slice().iter().enumerate() {

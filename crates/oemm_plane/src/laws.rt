@@ -3,7 +3,7 @@
 ghost use Rattle.std.specs.Prelude.{◌≡◌, [], ◌∷◌, ◌++◌, List, length, pos, ◌≤ℤ◌, IsPermutation};
 ghost use Rattle.oemm_octree.specs.declared.points.Point.{Point};
 ghost use Rattle.mesh_data.specs.declared.planes.Plane.{Plane};
-ghost use Rattle.mesh_data.specs.Planes.{squares, Sums, products, added, sums_of, sums_value};
+ghost use Rattle.mesh_data.specs.Planes.{plane_of, squares, Sums, products, added, sums_of, sums_value};
 
 /// The sums of a list of planes: their value at a point is the sum of the squared values of the planes, and so
 /// it is never negative; they count the planes; the sums of two lists add up, so one plane more adds its products;
@@ -17,4 +17,10 @@ pub fn sums_laws()
     ensures in_any_order { (ls ms : List Plane) → IsPermutation ls ms → sums_of ls ≡ sums_of ms }
     ensures either_way { (s t : Sums) → added s t ≡ added t s }
     ensures grouped { (s t u : Sums) → added (added s t) u ≡ added s (added t u) }
+{}
+
+/// The plane of a triangle is the same from each of its corners.
+#[tactic(auto, using(crate::proofs::PlanesCorners::plane_from_next))]
+pub fn plane_from_each_corner()
+    ensures { (a b c : Point) → plane_of a b c ≡ plane_of b c a }
 {}

@@ -6,4 +6,4 @@ mod quad_sums;
 mod triangle_planes;
 
 pub use quad_sums::QuadSums;
-pub use triangle_planes::{folds, plane_from_each_corner, plane_of};
+pub use triangle_planes::{folds, plane_of};

@@ -97,12 +97,6 @@ pub fn plane_of(a: &Point, b: &Point, c: &Point) -> Plane
     }
 }
 
-/// The plane of a triangle is the same from each of its corners.
-#[tactic(auto, using(crate::proofs::PlanesCorners::plane_from_next))]
-pub fn plane_from_each_corner()
-    ensures { (a b c : Point) → plane_of a b c ≡ plane_of b c a }
-{}
-
 /// The product of a component of one normal and of another.
 fn product(a: i64, b: i64) -> i128
     requires first { nat_abs a < 2 ^ 32 }

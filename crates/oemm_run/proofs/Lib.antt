@@ -1,5 +1,5 @@
 pub mod Readings
-pub mod Texts
+pub mod Pieces
 pub mod Sources
 pub mod Takings
 pub mod MeshPhase

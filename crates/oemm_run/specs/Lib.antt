@@ -2,7 +2,7 @@ pub mod End
 pub mod Report
 pub use Rattle.oemm_words.specs.Words
 pub mod Soup
-pub mod Texts
+pub mod Outputs
 pub mod Outside
 pub mod Phases
 pub mod Commands

@@ -42,7 +42,7 @@ pub record Wrote (before after : Output) (text : List ℕ) : Type 0 where
   pub finished : after.finished ≡ true
   pub calm : after.faults ≡ before.faults
 
--- the sink failed, a front of the text was put, and the sink isn't finished unless it was before
+-- the sink failed, a prefix of the text was put, and the sink isn't finished unless it was before
 pub record FailedIn (before after : Output) (text : List ℕ) : Type 0 where
   pub cause : HasFailed before.faults after.faults
   pub front : PutsPrefix before.written after.written text

@@ -26,9 +26,9 @@ pub enum End {
     MeshShape(Shape),
     /// The first fault of the script's text, and its line, counted from 1.
     ScriptText { line: u32, why: ScriptWhy },
-    /// The sink of the mesh failed. It holds a front of the bytes.
+    /// The sink of the mesh failed. It holds a prefix of the bytes.
     WriteOut,
-    /// The sink of the report failed. It holds a front of the text.
+    /// The sink of the report failed. It holds a prefix of the text.
     WriteReport,
     /// A limit is passed.
     Limit { what: What, count: u64 },

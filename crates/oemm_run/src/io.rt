@@ -12,9 +12,9 @@ use std::alloc::Global;
 /// What a command reads and writes.
 #[derive(Drop)]
 pub struct Io<M, S, O, R> {
-    /// The mesh.
+    /// Where the mesh is read from: OFF, or PLY by its first three bytes.
     pub mesh: M,
-    /// The script.
+    /// Where the tasks are read from.
     pub script: S,
     /// The file of the mesh that the script leaves.
     pub out: O,

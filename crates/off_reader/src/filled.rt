@@ -9,7 +9,7 @@ use mesh_items::{MeshFault, MeshWhy, fault_at, fault_of_lines};
 use oemm_io::Source;
 use oemm_lines::{Line, Lines};
 
-/// The next line.
+/// The next line, where a further one has to come: the end of the source is a fault too.
 #[tactic(auto, using(crate::proofs::LineSteps::filled_line, crate::proofs::LineSteps::filled_cut, crate::proofs::LineSteps::filled_fault, mesh_items::proofs::Failures::failure_told_on))]
 fn next_line<S: Source>(lines: &mut Lines<S>) -> Result<Line, MeshFault>
     requires { lines.old.fault ≡ None }

@@ -67,7 +67,7 @@ fn coordinate_at(line: &Line, place: usize, vertex: u32) -> Result<i16, MeshFaul
     coordinate_of(word_at(line, place)?, line.at, vertex)
 }
 
-/// The point of this vertex.
+/// The point that a line of coordinates says; a fault names the vertex.
 #[tactic(auto, unfolding(crate::specs::Grammar::vertex_of))]
 fn vertex_of(line: &Line, vertex: u32) -> Result<Point, MeshFault>
     requires { IsPlaced line.now }

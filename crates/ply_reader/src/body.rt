@@ -91,7 +91,7 @@ fn records_passed<S: Source>(
     }
 }
 
-/// Passes over elements.
+/// Passes over elements that are neither the vertices nor the faces.
 fn elements_passed<S: Source>(
     feed: &mut Feed<S>,
     order: ByteOrder,

@@ -124,7 +124,7 @@ fn count_in<S: Source>(
     list_count(here, n)
 }
 
-/// Passes over a list.
+/// Passes over the count of a list and its items.
 fn list_passed<S: Source>(
     feed: &mut Feed<S>,
     here: &Record,

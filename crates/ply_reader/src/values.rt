@@ -12,7 +12,7 @@ pub struct Record {
     pub at: u64,
     /// Its number among the vertices or among the faces, counted from 0.
     pub number: u32,
-    /// The number of vertices.
+    /// How many vertices the file declares, which bounds its indices.
     pub vertices: u32,
 }
 

@@ -9,7 +9,7 @@ use Rattle.oemm_lists.specs.Ascending.{inserted, in_order}
 use Rattle.mesh_data.specs.declared.geometry.Tri.{Tri}
 use Rattle.mesh_data.specs.Links.{is_opposite, link_violation}
 use Rattle.mesh_data.specs.Triangles.{neighbours}
-use Rattle.triangle_lists.specs.Names.{among}
+use Rattle.oemm_lists.specs.Numbers.{among}
 use Rattle.triangle_edits.specs.Links.{IsSharedBeside}
 
 -- members, by a test and by a place

@@ -30,17 +30,6 @@ neighbours_more v ts i t ns more lt at so_far one =
     ∙ ap (λ (s : Tri). neighbours v (take i ts ++ s ∷ [])) at
     ∙ ap (neighbours v) (sym (take_more ts i t lt))
 
--- what a binary search among sorted names answers
-pub found_name : (ns : List ℕ) (w : ℕ) (r : Result ℕ ℕ) → IsSorted nat_cmp ns → IsBinarySearchResult (λ y. nat_cmp y w) ns r → is_ok r ≡ list_any (λ x. eqb x w) ns
-found_name ns w (Ok i) up at =
-    let found = searched ns w (Ok i) at (λ i j le lt. IsNonDecreasingBy-from_sort (λ x. x) ns up i j 0 le lt) in
-    sym (list_any_at (λ x. eqb x w) ns i 0 found.0 (eq-eqb (get_or ns i 0) w found.1))
-found_name ns w (Err i) up at =
-    let parts = searched ns w (Err i) at (λ i j le lt. IsNonDecreasingBy-from_sort (λ x. x) ns up i j 0 le lt) in
-    sym (list_any_none (λ x. eqb x w) ns (λ k d lt.
-    let same : get_or ns k d ≡ get_or ns k 0 = get_or_default ns k d 0 lt in
-    ne_eqb (get_or ns k d) w (λ e. elim (cases_lt k i) [ inl below ↦ let apart = parts.1 k below in omega arith | inr above ↦ let apart = parts.2 k above lt in omega arith ])))
-
 -- the least of the sorted neighbours of u that v has too and that don't stand opposite
 pub least_by : (ts : List Tri) (u v : ℕ) (of_u of_v : List ℕ) (one other : Option ℕ) → of_u ≡ in_order nat_cmp (neighbours u ts) → IsPermutation (neighbours v ts) of_v → one ≡ apex ts u v → other ≡ apex ts v u → find (is_shared of_v one other) of_u ≡ link_violation ts u v
 unfolding link_violation

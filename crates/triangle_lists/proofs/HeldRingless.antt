@@ -12,7 +12,7 @@ use Rattle.mesh_data.specs.Manifold.{is_corner, HasRing}
 use Rattle.mesh_data.specs.Rings.{from_each_corner}
 use Rattle.triangle_lists.specs.HeldAudit.{AreHeldRinged, IsLeastHeldRingless}
 use Rattle.triangle_lists.specs.Links.{behind_all}
-use Rattle.triangle_lists.specs.Names.{among}
+use Rattle.oemm_lists.specs.Numbers.{among}
 use Rattle.triangle_lists.proofs.Ringless.{HasRingOf, any-corners, ring_here, ring_there}
 
 -- a filtered list has an item where one passes

@@ -7,6 +7,8 @@ use Rattle.std.proofs.lemmas.List.Kept.{AllPairs-from_increasing}
 use Rattle.std.proofs.lemmas.List.Sorted.{list_any-IsPermutation}
 use Rattle.std.specs.List.{list_any, filter, flat_map, dedup, dedup_from}
 use Rattle.std.specs.List.Sorted.{IsPermutation, IsStrictlyIncreasing}
+use Rattle.std.specs.List.Retain.{DiffersFromLast, IsFiltered}
+use Rattle.oemm_lists.proofs.Once.{among-once}
 use Rattle.mesh_data.specs.declared.geometry.Edge.{Edge}
 use Rattle.mesh_data.specs.declared.geometry.Tri.{Tri}
 use Rattle.mesh_data.specs.declared.rings.Ring.{Ring}
@@ -16,30 +18,14 @@ use Rattle.mesh_data.specs.Rings.{has_path_edge, link, from_each_corner, IsRingO
 use Rattle.triangle_lists.specs.Links.{behind_all}
 use Rattle.triangle_lists.proofs.Links.{link_is}
 
-or_again : (a b : Bool) → (a || b) ≡ (a || (a || b))
-or_again true b = refl
-or_again false b = refl
-
-any-dedup_from : (v k : ℕ) (ns : List ℕ) → list_any (λ w. eqb w v) (dedup_from eqb k ns) ≡ (eqb k v || list_any (λ w. eqb w v) ns)
-any-dedup_from v k [] = refl
-any-dedup_from v k (n ∷ ns) =
-    elim (eqb n k) as (λ b. eqb n k ≡ b → list_any (λ w. eqb w v) (cond b (dedup_from eqb k ns) (k ∷ dedup_from eqb n ns)) ≡ (eqb k v || (eqb n v || list_any (λ w. eqb w v) ns))) [
-      | true ↦ λ is. any-dedup_from v k ns ∙ or_again (eqb k v) (list_any (λ w. eqb w v) ns) ∙ ap (λ (m : ℕ). eqb k v || (eqb m v || list_any (λ w. eqb w v) ns)) (sym (eqb-true n k is))
-      | false ↦ λ _. ap (λ (b : Bool). eqb k v || b) (any-dedup_from v n ns)
-    ] refl
-
-any-dedup : (v : ℕ) (ns : List ℕ) → list_any (λ w. eqb w v) (dedup eqb ns) ≡ list_any (λ w. eqb w v) ns
-any-dedup v [] = refl
-any-dedup v (n ∷ ns) = any-dedup_from v n ns
-
 any-starts : (v : ℕ) (ts : List Tri) → list_any (λ w. eqb w v) (map (λ t. t.a) ts) ≡ list_any (λ t. eqb t.a v) ts
 any-starts v [] = refl
 any-starts v (t ∷ ts) = ap (λ (b : Bool). eqb t.a v || b) (any-starts v ts)
 
 -- names sorted and each kept once
-pub any-names : (turned : List Tri) (all sorted names : List ℕ) (v : ℕ) → all ≡ map (λ t. t.a) turned → IsPermutation all sorted → names ≡ dedup eqb sorted → list_any (λ w. eqb w v) names ≡ list_any (λ t. eqb t.a v) turned
+pub any-names : (turned : List Tri) (all sorted names : List ℕ) (v : ℕ) → all ≡ map (λ t. t.a) turned → IsPermutation all sorted → IsFiltered (DiffersFromLast eqb) [] sorted names → list_any (λ w. eqb w v) names ≡ list_any (λ t. eqb t.a v) turned
 any-names turned all sorted names v is moved kept =
-    ap (list_any (λ w. eqb w v)) kept ∙ any-dedup v sorted ∙ sym (list_any-IsPermutation (λ w. eqb w v) all sorted moved) ∙ ap (list_any (λ w. eqb w v)) is ∙ any-starts v turned
+    among-once all sorted names v moved kept ∙ ap (list_any (λ w. eqb w v)) is ∙ any-starts v turned
 
 or_three : (a b c d : Bool) → (a || (b || (c || d))) ≡ (((a || b) || c) || d)
 or_three true b c d = refl

@@ -4,7 +4,7 @@ use Rattle.mesh_data.specs.declared.geometry.Tri.{Tri}
 use Rattle.mesh_data.specs.declared.shapes.Shape.{Shape}
 use Rattle.mesh_data.specs.declared.shapes.Shape.TheVariants as shape
 use Rattle.mesh_data.specs.Manifold.{HasRing, IsEachEdgeOnce, IsLeastTwice, is_corner}
-use Rattle.triangle_lists.specs.Names.{among}
+use Rattle.oemm_lists.specs.Numbers.{among}
 
 -- each held vertex that is in a triangle has a ring
 abbrev pub AreHeldRinged : List Tri → List ℕ → Type 0

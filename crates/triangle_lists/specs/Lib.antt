@@ -1,4 +1,3 @@
-pub mod Names
 pub mod Links
 pub mod Audit
 pub mod HeldAudit

@@ -12,7 +12,7 @@ use Rattle.mesh_data.specs.Triangles.{corners, has_corner, star, tri_cmp, turned
 use Rattle.triangle_lists.proofs.Filters.{filter-in_order, filter-map}
 use Rattle.triangle_lists.proofs.Orders.{tri_cmp-IsAntisymmetric, tri_cmp_total}
 use Rattle.triangle_lists.proofs.Sorting.{IsSorted-in_order, in_order_from_sort}
-use Rattle.triangle_lists.specs.Names.{among}
+use Rattle.oemm_lists.specs.Numbers.{among}
 use Rattle.edit_laws.proofs.FarPairs.{beside, put-away}
 use Rattle.edit_laws.proofs.Locality.{corner_on}
 use Rattle.edit_laws.specs.Away.{AreTurned}

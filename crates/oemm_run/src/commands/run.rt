@@ -9,7 +9,7 @@ use crate::phases::out::{end_of_out, write_out};
 use crate::phases::report::write_report;
 use crate::phases::script::{end_of_script, read_tasks};
 use crate::phases::shape::{end_of_shape, start_mesh};
-use crate::phases::tasks::texts_of;
+use crate::phases::tasks::outputs_of;
 use mesh_out::Form;
 use oemm_io::{Failed, Sink, Source};
 use std::alloc::Global;
@@ -41,15 +41,15 @@ pub fn run_script<M: Source, S: Source, O: Sink, R: Sink>(
         Ok(read) => read,
         Err(fault) => return (io, end_of_script(fault)),
     };
-    let Ok(texts) = texts_of(alloc, plain, core, read.tasks.slice()) else {
+    let Ok(outputs) = outputs_of(alloc, plain, core, read.tasks.slice()) else {
         return (io, End::Memory);
     };
-    let (out, written) = write_out(alloc, io.out, form, &texts);
+    let (out, written) = write_out(alloc, io.out, form, &outputs);
     let io = Io { out, ..io };
     if let Err(fault) = written {
         return (io, end_of_out(fault));
     }
-    let (report, written) = write_report(io.report, &texts.report);
+    let (report, written) = write_report(io.report, &outputs.report);
     let io = Io { report, ..io };
     if let Err(Failed) = written {
         return (io, End::WriteReport);

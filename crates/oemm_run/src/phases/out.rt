@@ -4,9 +4,9 @@ ghost use Rattle.std.specs.Prelude.{◌≡◌};
 ghost use Rattle.mesh_out.specs.Form.{form_text};
 ghost use Rattle.oemm_run.specs.Outside.{output};
 ghost use Rattle.oemm_run.specs.Phases.Out.{end_of_out, WritesMesh};
-ghost use Rattle.oemm_run.specs.Texts.{IsWritable};
+ghost use Rattle.oemm_run.specs.Outputs.{IsWritable};
 
-use super::tasks::Texts;
+use super::tasks::Outputs;
 use crate::end::End;
 use mesh_out::{Form, OutFault, write_mesh};
 use oemm_io::Sink;
@@ -31,13 +31,13 @@ pub fn write_out<O: Sink>(
     alloc: Global,
     sink: O,
     form: Form,
-    texts: &Texts,
+    outputs: &Outputs,
 ) -> (O, Result<(), OutFault>)
-    requires { IsWritable texts.now }
+    requires { IsWritable outputs.now }
     ensures { WritesMesh (output (O.written sink) (O.faults sink) (O.finished sink))
         (output (O.written result.0) (O.faults result.0) (O.finished result.0))
-        (form_text form texts.now.points texts.now.faces) result.1 }
+        (form_text form outputs.now.points outputs.now.faces) result.1 }
 {
-    let points = texts.points.slice();
-    write_mesh(alloc, sink, form, points, texts.faces.slice())
+    let points = outputs.points.slice();
+    write_mesh(alloc, sink, form, points, outputs.faces.slice())
 }

@@ -11,7 +11,7 @@ ghost use Rattle.edit_script.specs.Ranges.{AreTasks, IsTask};
 ghost use Rattle.oemm_run.specs.Commands.Run.{one_leaf};
 ghost use Rattle.oemm_run.specs.Phases.Report.{report_text};
 ghost use Rattle.oemm_run.specs.Report.{summary};
-ghost use Rattle.oemm_run.specs.Texts.{IsWritable};
+ghost use Rattle.oemm_run.specs.Outputs.{IsWritable};
 
 use crate::summary::put_summary;
 use commit_journal::journal_text;
@@ -25,7 +25,7 @@ use std::alloc::{AllocError, Global};
 
 /// What is written of the mesh that the tasks leave.
 #[derive(Drop)]
-pub struct Texts {
+pub struct Outputs {
     pub points: Points,
     /// The faces, with the places of their vertices among the points.
     pub faces: Tris,
@@ -80,7 +80,7 @@ fn faces_of(alloc: Global, mesh: &PlainMesh) -> Result<Tris, AllocError>
 }
 
 /// The line of a mesh's counts, of which those of its points and faces are known.
-#[tactic(auto, using(crate::proofs::Texts::summary_of))]
+#[tactic(auto, using(crate::proofs::Pieces::summary_of))]
 fn summary_of(
     alloc: Global,
     mesh: &PlainMesh,
@@ -112,24 +112,24 @@ fn report_of(alloc: Global, journal: &Entries, line: &str) -> Result<Bytes, Allo
 ///
 /// # Errors
 /// Want of memory.
-pub fn texts_of(
+pub fn outputs_of(
     alloc: Global,
     mut mesh: PlainMesh,
     limit: u32,
     tasks: &[Task],
-) -> Result<Texts, AllocError>
+) -> Result<Outputs, AllocError>
     requires { AreTasks tasks.now }
-    ensures points { IfOk result (λ texts. texts.points ≡ points_of (play one_leaf limit mesh tasks.now).mesh) }
-    ensures faces { IfOk result (λ texts. texts.faces ≡ faces_of (play one_leaf limit mesh tasks.now).mesh) }
+    ensures points { IfOk result (λ outputs. outputs.points ≡ points_of (play one_leaf limit mesh tasks.now).mesh) }
+    ensures faces { IfOk result (λ outputs. outputs.faces ≡ faces_of (play one_leaf limit mesh tasks.now).mesh) }
     ensures writable { IfOk result IsWritable }
-    ensures report { IfOk result (λ texts. texts.report ≡ report_text (play one_leaf limit mesh tasks.now)) }
+    ensures report { IfOk result (λ outputs. outputs.report ≡ report_text (play one_leaf limit mesh tasks.now)) }
 {
     let cells = one_leaf(alloc)?;
     let journal = play_tasks(alloc, &mut mesh, &cells, limit, tasks)?;
     let points = mesh.points(alloc)?;
     let faces = faces_of(alloc, &mesh)?;
     let line = summary_of(alloc, &mesh, points.len(), faces.len())?;
-    Ok(Texts {
+    Ok(Outputs {
         points,
         faces,
         report: report_of(alloc, &journal, line.as_str())?,

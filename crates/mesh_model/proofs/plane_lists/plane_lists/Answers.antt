@@ -2,7 +2,7 @@ use Rattle.std.proofs.Common.{◌≡◌, ◌∙◌, ap, sym, subst, length, [], 
 use Rattle.mesh_data.specs.Mesh.{plane_at}
 use Rattle.mesh_data.specs.Triangles.{IsProper, IsBelow}
 use Rattle.std.proofs.lemmas.List.Elements.{All-get_or}
-use Rattle.mesh_model.specs.PlaneCounts.{large_of}
+use Rattle.plane_counts.specs.PlaneCounts.{large_of}
 use Rattle.mesh_model.proofs.PlaneLists.{with_plane, with_triangle, one_triangle_more, none_large-with_triangle}
 use Rattle.mesh_model.proofs.plane_lists.plane_lists.Goals as goal
 

@@ -1,6 +1,6 @@
 use Rattle.std.proofs.Common.{◌≡◌, ℕ, ◌<◌, [], length, get_or, take}
 use Rattle.mesh_data.specs.Mesh.{planes_at}
-use Rattle.mesh_model.specs.PlaneCounts.{large_of}
+use Rattle.plane_counts.specs.PlaneCounts.{large_of}
 use Rattle.mesh_model.proofs.plane_lists.plane_lists.Given as goal
 
 abbrev pub invariant-loop-t : goal.invariant-loop-t

@@ -5,5 +5,6 @@ use Rattle.oemm_octree.proofs.axis.place_at.Goals as goal
 pub overflow_cast-result : goal.overflow_cast-result
 overflow_cast-result c =
     let wide : 2 ^ 10 ≤ 2 ^ (16 - c.from.result) = pow_mono {i = 10} {j = 16 - c.from.result} (omega arith) in
-    let below : c.from_low.result / 2 ^ (16 - c.from.result) < 256 = (div-lt_iff_lt-mul (omega arith)).1 (omega arith) in
+    let below : c.from_low.result / 2 ^ (16 - c.from.result) < 256 = (div-lt_iff_lt-mul (omega arith)).1
+    (omega arith) in
     omega arith

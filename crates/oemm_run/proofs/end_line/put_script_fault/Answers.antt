@@ -3,7 +3,7 @@ use Rattle.std.specs.Prelude.{codes}
 use Rattle.std.specs.Fmt.{decimal}
 use Rattle.std.specs.String.{string_bytes}
 use Rattle.oemm_run.specs.End.{script_why_text}
-use Rattle.oemm_run.proofs.Texts.{written_in_two, written_as}
+use Rattle.oemm_run.proofs.Pieces.{written_in_two, written_as}
 use Rattle.oemm_run.proofs.end_line.put_script_fault.Goals as goal
 
 pub returns : goal.returns

@@ -3,7 +3,7 @@ use Rattle.std.specs.Prelude.{codes}
 use Rattle.std.specs.Fmt.{decimal}
 use Rattle.std.specs.String.{string_bytes}
 use Rattle.oemm_run.specs.End.{shape_text}
-use Rattle.oemm_run.proofs.Texts.{written_as}
+use Rattle.oemm_run.proofs.Pieces.{written_as}
 use Rattle.oemm_run.proofs.end_line.put_shape.Goals as goal
 
 pub returns-in-Edge : goal.returns-in-Edge

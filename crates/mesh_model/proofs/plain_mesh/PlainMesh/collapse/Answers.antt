@@ -7,9 +7,9 @@ use Rattle.mesh_data.specs.Edits.{collapsed_tris}
 use Rattle.mesh_data.specs.Manifold.{IsTriangleOf}
 use Rattle.mesh_data.specs.Mesh.{Mesh}
 use Rattle.mesh_data.specs.Triangles.{tri_cmp}
-use Rattle.mesh_model.specs.Taken.{taken_over}
-use Rattle.mesh_model.specs.PlaneCounts.{HasPlanes}
-use Rattle.mesh_model.proofs.Shares.{planes_taken_over, kept_taken_over, len-taken_over}
+use Rattle.plane_counts.specs.Taken.{taken_over}
+use Rattle.plane_counts.specs.PlaneCounts.{HasPlanes}
+use Rattle.plane_counts.proofs.Shares.{planes_taken_over, kept_taken_over, len-taken_over}
 use Rattle.mesh_model.proofs.Sorted.{sorted_collapsed}
 use Rattle.triangle_edits.proofs.Results.{triangles_collapsed}
 use Rattle.mesh_model.proofs.plain_mesh.PlainMesh.collapse.Goals as goal

@@ -2,9 +2,9 @@ use Rattle.std.proofs.Common.{◌≡◌, ◌∙◌, ◌++◌, length, ap, sym, a
 use Rattle.mesh_data.specs.Edits.{cost}
 use Rattle.mesh_data.specs.Planes.{Sums, added, sums_of, squares}
 use Rattle.mesh_data.specs.Quads.{sums_in}
-use Rattle.mesh_model.specs.Taken.{planes_in}
-use Rattle.mesh_model.specs.PlaneCounts.{large_of}
-use Rattle.mesh_model.proofs.Shares.{few_at, bounded_at, few_at_two}
+use Rattle.plane_counts.specs.Taken.{planes_in}
+use Rattle.plane_counts.specs.PlaneCounts.{large_of}
+use Rattle.plane_counts.proofs.Shares.{few_at, bounded_at, few_at_two}
 use Rattle.oemm_plane.proofs.Sums.{planes-sums_of, sums_of-append}
 use Rattle.oemm_plane.proofs.SumsRead.{read_as}
 use Rattle.mesh_model.proofs.plain_mesh.PlainMesh.cost.Goals as goal

@@ -10,8 +10,8 @@ use Rattle.mesh_data.specs.Manifold.{IsTriangleOf}
 use Rattle.mesh_data.specs.Mesh.{Mesh, named_from, planes_at}
 use Rattle.mesh_data.specs.Triangles.{IsProper, IsBelow, tri_cmp, turned}
 use Rattle.mesh_model.proofs.Starts.{proper_started, below_started, triangles_started}
-use Rattle.mesh_model.specs.PlaneCounts.{HasPlanes}
-use Rattle.mesh_model.proofs.Shares.{planes_started}
+use Rattle.plane_counts.specs.PlaneCounts.{HasPlanes}
+use Rattle.plane_counts.proofs.Shares.{planes_started}
 use Rattle.triangle_lists.proofs.Orders.{tri_cmp_total}
 use Rattle.triangle_lists.proofs.Sorting.{IsSorted-in_order}
 use Rattle.edit_steps.proofs.Vertices.{named_from-agree}

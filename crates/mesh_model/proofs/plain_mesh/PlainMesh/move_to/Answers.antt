@@ -4,7 +4,7 @@ use Rattle.std.specs.Ordering.{nat_cmp}
 use Rattle.mesh_data.specs.declared.geometry.Vertex.{Vertex}
 use Rattle.edit_steps.proofs.Vertices.{contains-changed}
 use Rattle.mesh_model.proofs.Starts.{triangles_of_same}
-use Rattle.mesh_model.proofs.Shares.{planes_moved}
+use Rattle.plane_counts.proofs.Shares.{planes_moved}
 use Rattle.mesh_model.proofs.plain_mesh.PlainMesh.move_to.Goals as goal
 
 pub invariant_of-self : goal.invariant_of-self

@@ -34,10 +34,10 @@ returns-in-Err-written g c =
     let script = subst (ReadsScript before.script after.script) c.in-Ok-read.is c.read_tasks-script.ensures in
     let at = at_out_of asked before after c.in-Ok.soup c.in-Ok-start_mesh.plain tasks mesh begun c.in-Ok-read.read.tasks c.slice.ensures script in
     let p : Played = play one_leaf c.args.core c.in-Ok-start_mesh.plain tasks in
-    let text = form_text c.args.form c.in-Ok-texts_of.texts.points c.in-Ok-texts_of.texts.faces in
+    let text = form_text c.args.form c.in-Ok-outputs_of.outputs.points c.in-Ok-outputs_of.outputs.faces in
     let stops = subst (WritesMesh before.out after.out text) c.in-Err-written.is c.write_out-out.ensures in
     gives_at_out asked before after c.end_of_out.result
-    (stops_at_out asked before after p c.in-Ok-texts_of.texts.points c.in-Ok-texts_of.texts.faces at c.in-Ok-texts_of.ensures.points c.in-Ok-texts_of.ensures.faces
+    (stops_at_out asked before after p c.in-Ok-outputs_of.outputs.points c.in-Ok-outputs_of.outputs.faces at c.in-Ok-outputs_of.ensures.points c.in-Ok-outputs_of.ensures.faces
     c.in-Err-written.fault c.end_of_out.result c.end_of_out.ensures stops refl)
 
 pub returns-in-Err-written-2 : goal.returns-in-Err-written-2
@@ -61,11 +61,11 @@ returns-in-Err-written-2 g c =
     let script = subst (ReadsScript before.script after.script) c.in-Ok-read.is c.read_tasks-script.ensures in
     let at = at_out_of asked before after c.in-Ok.soup c.in-Ok-start_mesh.plain tasks mesh begun c.in-Ok-read.read.tasks c.slice.ensures script in
     let p : Played = play one_leaf c.args.core c.in-Ok-start_mesh.plain tasks in
-    let text = form_text c.args.form c.in-Ok-texts_of.texts.points c.in-Ok-texts_of.texts.faces in
+    let text = form_text c.args.form c.in-Ok-outputs_of.outputs.points c.in-Ok-outputs_of.outputs.faces in
     let wrote = subst (WritesMesh before.out after.out text) c.in_default-written.is c.write_out-out.ensures in
-    let reported = at_report_of asked before after p c.in-Ok-texts_of.texts.points c.in-Ok-texts_of.texts.faces at c.in-Ok-texts_of.ensures.points c.in-Ok-texts_of.ensures.faces wrote in
-    stops_at_report asked before after p c.in-Ok-texts_of.texts.report WriteReport reported c.in-Ok-texts_of.ensures.report
-    (subst (WritesReport before.report after.report c.in-Ok-texts_of.texts.report) c.in-Err-written-2.is c.write_report-report.ensures)
+    let reported = at_report_of asked before after p c.in-Ok-outputs_of.outputs.points c.in-Ok-outputs_of.outputs.faces at c.in-Ok-outputs_of.ensures.points c.in-Ok-outputs_of.ensures.faces wrote in
+    stops_at_report asked before after p c.in-Ok-outputs_of.outputs.report WriteReport reported c.in-Ok-outputs_of.ensures.report
+    (subst (WritesReport before.report after.report c.in-Ok-outputs_of.outputs.report) c.in-Err-written-2.is c.write_report-report.ensures)
 
 pub returns : goal.returns
 returns g c =
@@ -88,8 +88,8 @@ returns g c =
     let script = subst (ReadsScript before.script after.script) c.in-Ok-read.is c.read_tasks-script.ensures in
     let at = at_out_of asked before after c.in-Ok.soup c.in-Ok-start_mesh.plain tasks mesh begun c.in-Ok-read.read.tasks c.slice.ensures script in
     let p : Played = play one_leaf c.args.core c.in-Ok-start_mesh.plain tasks in
-    let text = form_text c.args.form c.in-Ok-texts_of.texts.points c.in-Ok-texts_of.texts.faces in
+    let text = form_text c.args.form c.in-Ok-outputs_of.outputs.points c.in-Ok-outputs_of.outputs.faces in
     let wrote = subst (WritesMesh before.out after.out text) c.in_default-written.is c.write_out-out.ensures in
-    let reported = at_report_of asked before after p c.in-Ok-texts_of.texts.points c.in-Ok-texts_of.texts.faces at c.in-Ok-texts_of.ensures.points c.in-Ok-texts_of.ensures.faces wrote in
-    is_done_of asked before after p c.in-Ok-texts_of.texts.report reported c.in-Ok-texts_of.ensures.report
-    (subst (WritesReport before.report after.report c.in-Ok-texts_of.texts.report) c.in_default-written-2.is c.write_report-report.ensures)
+    let reported = at_report_of asked before after p c.in-Ok-outputs_of.outputs.points c.in-Ok-outputs_of.outputs.faces at c.in-Ok-outputs_of.ensures.points c.in-Ok-outputs_of.ensures.faces wrote in
+    is_done_of asked before after p c.in-Ok-outputs_of.outputs.report reported c.in-Ok-outputs_of.ensures.report
+    (subst (WritesReport before.report after.report c.in-Ok-outputs_of.outputs.report) c.in_default-written-2.is c.write_report-report.ensures)

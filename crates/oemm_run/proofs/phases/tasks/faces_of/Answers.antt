@@ -1,4 +1,4 @@
-use Rattle.oemm_run.proofs.Texts.{faces_below}
+use Rattle.oemm_run.proofs.Pieces.{faces_below}
 use Rattle.oemm_run.proofs.phases.tasks.faces_of.Goals as goal
 
 pub returns-clause-below : goal.returns-clause-below

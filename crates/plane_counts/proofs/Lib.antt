@@ -1,0 +1,4 @@
+pub mod Stocks
+pub mod Shares
+pub mod Grid
+pub mod Planed

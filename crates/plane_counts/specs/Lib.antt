@@ -1,0 +1,2 @@
+pub mod PlaneCounts
+pub mod Taken
