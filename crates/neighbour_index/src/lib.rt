@@ -1,0 +1,11 @@
+//! Which leaves are neighbours: they share a face.
+#![tactic(auto)]
+
+mod near;
+mod sets;
+
+pub use near::near_of;
+pub use sets::join_near;
+
+#[cfg(test)]
+mod tests;
