@@ -1,0 +1,10 @@
+pub mod ArmedLaws
+pub mod ContentLaws
+pub mod Crashes
+pub mod Entries
+pub mod HistoryLaws
+pub mod InTurn
+pub mod NameLaws
+pub mod Silent
+pub mod Told
+pub mod Untold
