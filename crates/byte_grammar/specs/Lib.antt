@@ -1,0 +1,5 @@
+pub mod Reader
+pub mod Numbers
+pub mod Keeps
+pub mod Codec
+pub mod Calls
