@@ -1,0 +1,11 @@
+pub mod Filters
+pub mod Kept
+pub mod Leaves
+pub mod Gathered
+pub mod Assembling
+pub mod Rims
+pub mod Writing
+pub mod Everything
+pub mod Sorts
+pub mod Climbing
+pub mod Near

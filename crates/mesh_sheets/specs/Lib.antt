@@ -1,0 +1,5 @@
+pub mod Sheets
+pub mod Assembled
+pub mod Written
+pub mod Export
+pub mod Clean

@@ -1,0 +1,4 @@
+pub mod Fragments
+pub mod Kernels
+pub mod Sight
+pub mod Locality

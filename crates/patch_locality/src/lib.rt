@@ -1,0 +1,4 @@
+//! What a task answers and leaves depends on the patch of its core alone.
+#![tactic(auto)]
+
+pub mod laws;
