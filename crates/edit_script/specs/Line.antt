@@ -1,6 +1,6 @@
 -- What a line of a script says, by its words. Within a line the faults come in the order Word, Words, Number, Lane, Box.
 use Rattle.std.specs.Prelude.{ℕ, ◌^◌, nat_lt, Bool, ◌&&◌, bytes_eq, codes, List, [], ◌∷◌, Option, Some, None, Result, Ok, Err, option_and_then, ℤ, pos, int_le, if◌then◌else◌}
-use Rattle.oemm_limits.specs.declared.TheConstants.{LAST_LANE}
+use Rattle.oemm_limits.specs.declared.TheConstants.{LAST_LANE, MOST_COST}
 use Rattle.oemm_lines.specs.Numbers.{unsigned_of, integer_of}
 use Rattle.oemm_octree.specs.Octree.{on_grid}
 use Rattle.oemm_octree.specs.declared.points.Point.{Point}
@@ -39,7 +39,7 @@ name_of word = do
 unfoldable pub most_of : List ℕ → Option ℤ
 most_of word = do
   n ← unsigned_of word
-  if nat_lt (2 ^ 126) n then None else Some (pos n)
+  if nat_lt MOST_COST n then None else Some (pos n)
 
 -- the number of triangles that a word writes
 unfoldable pub triangles_of : List ℕ → Option ℕ

@@ -1,6 +1,6 @@
 -- The ranges of what a script says.
 use Rattle.std.specs.Prelude.{◌≡◌, ℕ, ◌^◌, ◌<◌, ◌≤◌, ℤ, pos, ◌≤ℤ◌, List, length, All, slice_index, slice_index_or, take, ⊤}
-use Rattle.oemm_limits.specs.declared.TheConstants.{LAST_LANE, MOST_EDITS, MOST_TASKS}
+use Rattle.oemm_limits.specs.declared.TheConstants.{LAST_LANE, MOST_COST, MOST_EDITS, MOST_TASKS}
 use Rattle.oemm_octree.specs.declared.points.Point.{Point}
 use Rattle.mesh_data.specs.declared.edits.Edit.{Edit}
 use Rattle.mesh_data.specs.declared.edits.Edit.TheVariants.{Move, Collapse, Flip, Simplify}
@@ -15,10 +15,10 @@ pub record IsBox (low high : Point) : Type 0 where
   pub y : low.y ≤ℤ high.y
   pub z : low.z ≤ℤ high.z
 
--- a bound of a cost is from 0 to 2^126
+-- a bound of a cost is from 0 to the greatest
 pub record IsCostBound (max : ℤ) : Type 0 where
   pub least : pos 0 ≤ℤ max
-  pub greatest : max ≤ℤ pos (2 ^ 126)
+  pub greatest : max ≤ℤ pos MOST_COST
 
 -- an edit's bound of a cost and its number of triangles are within their ranges
 abbrev pub IsEdit : Edit → Type 0

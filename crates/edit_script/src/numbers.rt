@@ -5,7 +5,7 @@ ghost use Rattle.edit_script.specs.Line.{coordinate_of, name_of, most_of, triang
 ghost use Rattle.edit_script.specs.Ranges.{IsCostBound};
 
 use mesh_data::Name;
-use oemm_limits::MOST_ITEMS;
+use oemm_limits::{MOST_COST, MOST_ITEMS};
 use oemm_lines::{integer, unsigned};
 use oemm_octree::Point;
 
@@ -54,7 +54,11 @@ pub fn most(word: &[u8]) -> Option<i128>
     ensures within { IfSome result IsCostBound }
 {
     let n = unsigned(word)?;
-    if n <= 1 << 126 { Some(n as i128) } else { None }
+    if n <= MOST_COST {
+        Some(n as i128)
+    } else {
+        None
+    }
 }
 
 /// The number of triangles that a word writes.

@@ -12,7 +12,8 @@ use Rattle.byte_grammar.proofs.Codecs.{codec_of}
 use Rattle.byte_grammar.proofs.Variants.{Makes, Makes-then, Makes-last}
 use Rattle.byte_grammar.proofs.Places.{Places, Places-then, Places-unit, Places-number, Places-signed, Places-many, Places-done}
 use Rattle.leaf_codec.specs.Index.{cell_bytes, index_bytes, is_cell, cell, index, FitsCell, KeepsIndexRules, IsIndexSpelling}
-use Rattle.leaf_codec.specs.declared.formats.TheConstants.{INDEX_TAG, MOST_CAP, MOST_CELLS, MOST_CORE, NEWEST}
+use Rattle.leaf_codec.specs.declared.formats.TheConstants.{INDEX_TAG, NEWEST}
+use Rattle.oemm_limits.specs.declared.TheConstants.{MOST_CAP, MOST_CORE, MOST_LEAVES}
 use Rattle.oemm_limits.specs.declared.TheConstants.{MOST_ITEMS}
 
 pub Spells-cell : Spells cell cell_bytes FitsCell
@@ -34,7 +35,7 @@ IndexRule b =
     (((s.cap < 2 ^ 32) × (is_in 1 MOST_CAP s.cap ≡ true)) × (((s.core < 2 ^ 32) × (is_in 1 MOST_CORE s.core ≡ true))
     × (((s.vertices < 2 ^ 32) × (is_in 0 MOST_ITEMS s.vertices ≡ true)) ×
     (((s.faces < 2 ^ 32) × (is_in 0 MOST_ITEMS s.faces ≡ true)) × (FitsSigned w32 s.euler × ((s.border < 2 ^ 32)
-    × (((length s.cells < 2 ^ 32) × (is_in 1 MOST_CELLS (length s.cells) ≡ true)) ×
+    × (((length s.cells < 2 ^ 32) × (is_in 1 MOST_LEAVES (length s.cells) ≡ true)) ×
     ((length s.cells ≡ length s.cells) × Keeps (λ before c. FitsCell c × (is_cell c ≡ true)) [] s.cells))))))))))
 
 pub Makes-index : Makes (λ (b : ℕ × IndexSheet). b.1) index (λ b. index_bytes b.0 b.1) IndexRule
@@ -48,7 +49,7 @@ Makes-index =
     Makes-then (Spells-unit Spells-u32 (is_in 0 MOST_ITEMS)) (λ b. b.1.faces) λ faces _.
     Makes-then Spells-i32 (λ b. b.1.euler) λ euler _.
     Makes-then Spells-u32 (λ b. b.1.border) λ border _.
-    Makes-then (Spells-unit Spells-u32 (is_in 1 MOST_CELLS)) (λ b. length b.1.cells) λ n _.
+    Makes-then (Spells-unit Spells-u32 (is_in 1 MOST_LEAVES)) (λ b. length b.1.cells) λ n _.
     Makes-last (Spells-many (λ before. Spells-unit Spells-cell is_cell) n) (λ b. b.1.cells)
     (λ cells. (
       format,
@@ -99,7 +100,7 @@ to_rule format bytes s h =
     let core = ranged 1 MOST_CORE s.core r.least_core r.most_core (omega arith) in
     let vertices = ranged 0 MOST_ITEMS s.vertices (omega arith) r.vertices (omega arith) in
     let faces = ranged 0 MOST_ITEMS s.faces (omega arith) r.faces (omega arith) in
-    let n = ranged 1 MOST_CELLS (length s.cells) r.least_cells r.most_cells (omega arith) in
+    let n = ranged 1 MOST_LEAVES (length s.cells) r.least_cells r.most_cells (omega arith) in
     let cells = Keeps-both FitsCell (λ before c. is_cell c ≡ true) s.cells [] h.fits.cells r.cells in (
       h.spelled,
       (
@@ -124,7 +125,7 @@ Places-index =
     Places-then (Spells-unit Spells-u32 (is_in 0 MOST_ITEMS)) mesh λ faces _.
     Places-then Spells-i32 (Places-signed w32 4) λ euler _.
     Places-then Spells-u32 (Places-number 4) λ border _.
-    Places-then (Spells-unit Spells-u32 (is_in 1 MOST_CELLS)) (Places-unit Spells-u32 (is_in 1 MOST_CELLS)) λ n _.
+    Places-then (Spells-unit Spells-u32 (is_in 1 MOST_LEAVES)) (Places-unit Spells-u32 (is_in 1 MOST_LEAVES)) λ n _.
     Places-then (Spells-many (λ before. Spells-unit Spells-cell is_cell) n)
     (Places-many _ _ _ (λ before. Spells-unit Spells-cell is_cell)
     (λ before. Places-unit Spells-cell is_cell) n []) λ cells _.

@@ -6,7 +6,7 @@ use Rattle.mesh_data.specs.declared.edits.Edit.TheVariants.{Move, Collapse, Flip
 use Rattle.byte_grammar.specs.Reader.{Reader, ◌>>=◌, done, number, signed, choose}
 use Rattle.byte_grammar.specs.Numbers.{u8_bytes, u32_bytes, i128_bytes}
 use Rattle.geometry_bytes.specs.Geometry.{point_bytes, FitsPoint, point}
-use Rattle.leaf_codec.specs.declared.formats.TheConstants.{MOST_COST}
+use Rattle.oemm_limits.specs.declared.TheConstants.{MOST_COST}
 use Rattle.oemm_limits.specs.declared.TheConstants.{MOST_ITEMS}
 
 -- ---- bytes: the tag, and the fields

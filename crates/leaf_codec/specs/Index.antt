@@ -8,7 +8,8 @@ use Rattle.byte_grammar.specs.Reader.{Reader, ◌>>=◌, done, number, number_in
 use Rattle.byte_grammar.specs.Numbers.{u8_bytes, u16_bytes, u32_bytes, i32_bytes}
 use Rattle.byte_grammar.specs.Keeps.{Keeps, Always}
 use Rattle.leaf_codec.specs.Formats.{format}
-use Rattle.leaf_codec.specs.declared.formats.TheConstants.{INDEX_TAG, MOST_CAP, MOST_CELLS, MOST_CORE, NEWEST}
+use Rattle.leaf_codec.specs.declared.formats.TheConstants.{INDEX_TAG, NEWEST}
+use Rattle.oemm_limits.specs.declared.TheConstants.{MOST_CAP, MOST_CORE, MOST_LEAVES}
 use Rattle.oemm_limits.specs.declared.TheConstants.{MOST_DEPTH, MOST_ITEMS}
 
 unfoldable pub cell_bytes : Cell → List ℕ
@@ -47,7 +48,7 @@ index = do
   faces ← number_in 0 MOST_ITEMS 4
   euler ← signed w32 4
   border ← number 4
-  n ← number_in 1 MOST_CELLS 4
+  n ← number_in 1 MOST_LEAVES 4
   cells ← many (λ before. unit is_cell cell) n []
   done (record
       { cap = cap; core = core; vertices = vertices; faces = faces; euler = euler; border = border; cells = cells })
@@ -72,7 +73,7 @@ pub record KeepsIndexRules (s : IndexSheet) : Type 0 where
   pub vertices : s.vertices ≤ MOST_ITEMS
   pub faces : s.faces ≤ MOST_ITEMS
   pub least_cells : 1 ≤ length s.cells
-  pub most_cells : length s.cells ≤ MOST_CELLS
+  pub most_cells : length s.cells ≤ MOST_LEAVES
   pub cells : Keeps (λ before c. is_cell c ≡ true) [] s.cells
 
 -- the bytes are the spelling of the index in the format

@@ -12,7 +12,8 @@ use Rattle.byte_grammar.specs.Reader.{Reader, ◌>>=◌, done, number, signed, u
 use Rattle.byte_grammar.specs.Numbers.{u8_bytes, u32_bytes, i128_bytes}
 use Rattle.byte_grammar.specs.Keeps.{Always}
 use Rattle.geometry_bytes.specs.Geometry.{face_bytes, face, is_turned, FitsTri}
-use Rattle.leaf_codec.specs.declared.formats.TheConstants.{MOST_COST, MOST_UNITS}
+use Rattle.leaf_codec.specs.declared.formats.TheConstants.{MOST_UNITS}
+use Rattle.oemm_limits.specs.declared.TheConstants.{MOST_COST}
 
 -- ---- bytes
 

@@ -6,11 +6,10 @@ ghost use Rattle.byte_grammar.specs.Reader.{unit};
 ghost use Rattle.byte_grammar.specs.Keeps.{IsAlways as Always};
 ghost use Rattle.leaf_codec.specs.Edits.{edit_bytes, FitsEdit, is_edit, is_bound, collapse, move_fields, flip, simplify, edit};
 
-use crate::formats::MOST_COST;
 use byte_grammar::{Stop, Units, i128_at, put_i128, put_u8, put_u32, u8_at, u32_at};
 use geometry_bytes::{name_known, point_at, point_known, put_point};
 use mesh_data::{Edit, Name};
-use oemm_limits::MOST_ITEMS;
+use oemm_limits::{MOST_COST, MOST_ITEMS};
 use std::alloc::{AllocError, Global};
 
 /// The least number of bytes of an edit.

@@ -23,18 +23,6 @@ pub const ENTRY_TAG: u32 = 0x454d_454f;
 /// The greatest number of units of a list.
 pub const MOST_UNITS: u32 = 1 << 26;
 
-/// The greatest number of vertices up to which a leaf may be left uncut.
-pub const MOST_CAP: u32 = 1 << 16;
-
-/// The greatest number of leaves that a task may be allowed to check out.
-pub const MOST_CORE: u32 = 1 << 12;
-
-/// The greatest number of cells of an octree: the number of those of the greatest depth.
-pub const MOST_CELLS: u32 = 1 << 18;
-
-/// The greatest bound of a cost, and the greatest size of one in a reply.
-pub const MOST_COST: u128 = 1 << 126;
-
 /// The format, and the bytes behind it.
 pub fn format_at(bytes: &[u8]) -> Result<(u16, &[u8]), Stop>
     ensures { Gives (λ x. (x.0, x.1.now)) result (format bytes.now) }

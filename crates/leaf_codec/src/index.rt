@@ -7,15 +7,16 @@ ghost use Rattle.byte_grammar.specs.Reader.{unit, many};
 ghost use Rattle.byte_grammar.specs.Numbers.{u16_bytes, u32_bytes, i32_bytes};
 ghost use Rattle.byte_grammar.specs.Keeps.{IsAlways as Always};
 ghost use Rattle.leaf_codec.specs.Index.{cell, cell_bytes, is_cell, FitsCell, index, index_bytes, FitsIndex, KeepsIndexRules, IsIndexSpelling};
-ghost use Rattle.leaf_codec.specs.declared.formats.TheConstants.{INDEX_TAG, MOST_CELLS, NEWEST};
+ghost use Rattle.leaf_codec.specs.declared.formats.TheConstants.{INDEX_TAG, NEWEST};
+ghost use Rattle.oemm_limits.specs.declared.TheConstants.{MOST_LEAVES};
 
 use crate::blob::Blob;
-use crate::formats::{INDEX_TAG, MOST_CAP, MOST_CELLS, MOST_CORE, NEWEST, format_at, put_count};
+use crate::formats::{INDEX_TAG, NEWEST, format_at, put_count};
 use byte_grammar::{
     Stop, Units, number_at, put_all, put_i32, put_u8, put_u16, put_u32, signed_at, tag_at, u8_at,
     u32_in, units_at,
 };
-use oemm_limits::{MOST_DEPTH, MOST_ITEMS};
+use oemm_limits::{MOST_CAP, MOST_CORE, MOST_DEPTH, MOST_ITEMS, MOST_LEAVES};
 use oemm_lists::{Bytes, List};
 use oemm_octree::{Cell, Cells};
 use sheet_data::IndexSheet;
@@ -131,7 +132,7 @@ fn index_at(alloc: Global, bytes: &[u8]) -> Result<(IndexSheet, &[u8]), Stop>
     let (faces, rest) = u32_in(0, MOST_ITEMS as u32, rest)?;
     let (euler, rest) = signed_at(rest)?;
     let (border, rest) = number_at(rest)?;
-    let (count, rest) = u32_in(1, MOST_CELLS, rest)?;
+    let (count, rest) = u32_in(1, MOST_LEAVES, rest)?;
     let (cells, rest) = cells_at(alloc, count, rest)?;
     Ok((
         IndexSheet {
@@ -149,7 +150,7 @@ fn index_at(alloc: Global, bytes: &[u8]) -> Result<(IndexSheet, &[u8]), Stop>
 
 /// Puts what stands before the cells of an index at the end.
 fn put_head(out: &mut Vec<u8>, s: &IndexSheet) -> Result<(), AllocError>
-    requires { length s.now.cells ≤ MOST_CELLS }
+    requires { length s.now.cells ≤ MOST_LEAVES }
     ensures { OnOk result (out.new.items ≡ out.old.items
         ++ (u32_bytes INDEX_TAG ++ (u16_bytes NEWEST ++ (u32_bytes s.now.cap ++ (u32_bytes s.now.core
         ++ (u32_bytes s.now.vertices ++ (u32_bytes s.now.faces ++ (i32_bytes s.now.euler
@@ -170,7 +171,7 @@ fn put_head(out: &mut Vec<u8>, s: &IndexSheet) -> Result<(), AllocError>
 /// The bytes of an index.
 #[tactic(auto, using(byte_grammar::proofs::Items::always), unfolding(crate::specs::Index::index_bytes))]
 fn index_bytes(alloc: Global, s: &IndexSheet) -> Result<Bytes, AllocError>
-    requires { length s.now.cells ≤ MOST_CELLS }
+    requires { length s.now.cells ≤ MOST_LEAVES }
     ensures text { IfOk result (λ bytes. bytes ≡ index_bytes NEWEST s.now) }
     ensures fits { OnOk result (FitsIndex s.now) }
 {

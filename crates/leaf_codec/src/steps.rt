@@ -7,10 +7,10 @@ ghost use Rattle.byte_grammar.specs.Reader.{unit};
 ghost use Rattle.byte_grammar.specs.Keeps.{IsAlways as Always};
 ghost use Rattle.leaf_codec.specs.Replies.{step, step_bytes, is_cost, is_step, FitsStep};
 
-use crate::formats::MOST_COST;
 use byte_grammar::{Stop, Units, i128_at, put_i128, put_u32, u32_at};
 use geometry_bytes::name_known;
 use mesh_data::{Name, Step};
+use oemm_limits::MOST_COST;
 use std::alloc::{AllocError, Global};
 
 /// The number of bytes of a step.

@@ -86,15 +86,19 @@ folds_with m u v t = has_corner u t && not (has_corner v t) && folds (plane_in m
 abbrev pub cost : Mesh → ℕ → ℕ → ℤ
 cost m u v = squares (planes_or_none m u ++ planes_or_none m v) (point_or_origin m v)
 
--- what a collapse of u onto v answers
-abbrev pub collapse_verdict : (Point → Bool) → Mesh → ℕ → ℕ → ℤ → Reply
-collapse_verdict inside m u v most = first_line (pair_lines inside m u v ++ (
+-- what a collapse of u onto v answers that has this price
+abbrev pub collapse_verdict_by : ℤ → (Point → Bool) → Mesh → ℕ → ℕ → ℤ → Reply
+collapse_verdict_by price inside m u v most = first_line (pair_lines inside m u v ++ (
     (not (has_closed_ring m.tris u), Border)
     ∷ if_any Link (link_violation m.tris u v)
     ∷ (is_closed_by_three m.tris u && is_closed_by_three m.tris v, Closed)
     ∷ if_any Folds (find (folds_with m u v) m.tris)
-    ∷ (not (int_le (cost m u v) most), Dear (cost m u v))
-    ∷ [])) (DoneAt (cost m u v))
+    ∷ (not (int_le price most), Dear price)
+    ∷ [])) (DoneAt price)
+
+-- what a collapse of u onto v answers
+abbrev pub collapse_verdict : (Point → Bool) → Mesh → ℕ → ℕ → ℤ → Reply
+collapse_verdict inside m u v most = collapse_verdict_by (cost m u v) inside m u v most
 
 -- the line of a flip that refuses an edge which is there already
 abbrev pub edge_line : List Tri → Option (ℕ × ℕ) → Bool × Reply

@@ -31,6 +31,15 @@ pub const MOST_DEPTH: u8 = 6;
 /// The greatest number of leaves of the octree, which is the number of cells of the greatest depth.
 pub const MOST_LEAVES: u32 = 1 << 18;
 
+/// The greatest number of vertices up to which a leaf may be left uncut.
+pub const MOST_CAP: u32 = 1 << 16;
+
+/// The greatest number of leaves that a task may be allowed to check out.
+pub const MOST_CORE: u32 = 1 << 12;
+
+/// The greatest bound of a cost, and the greatest size of one in a reply.
+pub const MOST_COST: u128 = 1 << 126;
+
 /// The number of vertices up to which a leaf isn't cut, where the words ask for no other.
 pub const DEFAULT_CAP: u32 = 4096;
 
