@@ -23,7 +23,9 @@ pub fn write_blob<R: Files>(
     path: &str,
     new_path: &str,
     bytes: &[u8],
-) -> Result<(), StoreFail> {
+) -> Result<(), StoreFail>
+    ensures failed { IfErr result (λ fault. fault ≡ StoreFail.Failed) }
+{
     told(replace_file(rt, folder, path, new_path, bytes))
 }
 
@@ -60,7 +62,9 @@ pub fn read_blob<R: Files>(rt: &R, alloc: Global, path: &str) -> Result<Option<B
 }
 
 /// Removes the file, if there is one.
-pub fn remove_blob<R: Files>(rt: &R, path: &str) -> Result<(), StoreFail> {
+pub fn remove_blob<R: Files>(rt: &R, path: &str) -> Result<(), StoreFail>
+    ensures failed { IfErr result (λ fault. fault ≡ StoreFail.Failed) }
+{
     found(fs::remove_file(rt, path))?;
     Ok(())
 }
@@ -82,6 +86,7 @@ fn found<T: Drop>(answer: io::Result<T>) -> Result<Option<T>, StoreFail>
 fn told<T: Drop>(answer: io::Result<T>) -> Result<T, StoreFail>
     ensures ok { IfOk answer (λ value. result ≡ Ok value) }
     ensures failed { IfErr answer (λ error. result ≡ Err StoreFail.Failed) }
+    ensures why { IfErr result (λ fault. fault ≡ StoreFail.Failed) }
 {
     match answer {
         Ok(value) => Ok(value),

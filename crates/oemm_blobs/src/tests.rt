@@ -98,6 +98,7 @@ fn what_is_no_folder_or_no_file_is_a_fault(rt: HostRuntime) -> Result<(), Fail> 
     fs::write(&rt, "blobs-file", "no folder")?;
     let mut no_folder = folder(rt.clone()?, alloc, "blobs-file")?;
     assert!(rt; all_fail(alloc, &mut no_folder));
+    fs::remove_file(&rt, "blobs-file")?;
     fs::create_dir_all(&rt, "blobs-c/index")?;
     let mut no_file = folder(rt.clone()?, alloc, "blobs-c")?;
     assert!(rt; all_fail(alloc, &mut no_file));
