@@ -118,7 +118,7 @@ fn io_of<R: Files + Print + AllocGlobal + Clone + Drop>(
     Ok(Io {
         mesh: FileSource::new(rt.clone()?, path_at(rt, words, roles.mesh)?),
         script: FileSource::new(rt.clone()?, path_at(rt, words, roles.script)?),
-        out: FileSink::new(rt.clone()?, path_at(rt, words, roles.out)?),
+        out: FileSink::new(rt.clone()?, rt.alloc(), path_at(rt, words, roles.out)?),
         report: StdSink::new(rt.clone()?),
     })
 }

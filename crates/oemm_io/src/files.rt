@@ -1,4 +1,4 @@
-//! Sources and sinks of the system, which tell nothing of their bytes.
+//! Files that are read, and standard output, which tell nothing of their bytes.
 
 ghost use Rattle.std.specs.Prelude.{◌≡◌, ◌≤◌, ◌<◌, ◌==◌, ◌&&◌, true, length, IfOk, OnOk, OnErr};
 ghost use Rattle.std.specs.String.{string_bytes};
@@ -78,102 +78,6 @@ fn read_some<R: Files>(
     let count = opened.read(buf);
     *file = Some(opened);
     count
-}
-
-/// A file that is written.
-///
-/// It is made, or emptied, at the first put or finish. Where that fails the call fails, and the next
-/// one tries again.
-#[derive(Drop)]
-pub struct FileSink<R: Files> {
-    rt: R,
-    path: String,
-    file: Option<R::File>,
-    tally: Tally,
-}
-
-impl<R: Files> Model for FileSink<R> {
-    ghost use Rattle.std.specs.String.{string_bytes};
-    ghost use Rattle.oemm_io.specs.Files.{FileOutput};
-
-    ghost Value = { FileOutput };
-
-    ghost view = { λ a. record { path = string_bytes a.path; state = a.tally } };
-}
-
-impl<R: Files> FileSink<R> {
-    /// The file at this path. It makes no call of the system.
-    pub fn new(rt: R, path: String) -> FileSink<R>
-        ensures { result ≡ record { path = string_bytes path; state = fresh } }
-    {
-        FileSink {
-            rt,
-            path,
-            file: None,
-            tally: Tally::new(),
-        }
-    }
-}
-
-impl<R: Files> Sink for FileSink<R> {
-    ghost use Rattle.std.specs.Prelude.{None};
-
-    ghost written = { λ _. None };
-
-    ghost faults = { λ sink. sink.state.faults };
-
-    ghost finished = { λ sink. sink.state.finished };
-
-    fn put(&mut self, bytes: &[u8]) -> Result<usize, Failed>
-        ensures path { self.new.path ≡ self.old.path }
-        ensures within { IfOk result (λ n. n ≤ length bytes.now) }
-        ensures some { IfOk result (λ n. 0 < length bytes.now → 0 < n) }
-        ensures open { IfOk result (λ n. self.new.state.finished ≡ (self.old.state.finished && n == 0)) }
-        ensures err { OnErr result (self.new.state.finished ≡ self.old.state.finished) }
-        ensures cause { HasCause self.old.state.faults self.new.state.faults result }
-    {
-        let written = write_some(&self.rt, &self.path, &mut self.file, bytes);
-        self.tally.put(written, bytes.len())
-    }
-
-    fn finish(&mut self) -> Result<(), Failed>
-        ensures path { self.new.path ≡ self.old.path }
-        ensures finished { OnOk result (self.new.state.finished ≡ true) }
-        ensures err { OnErr result (self.new.state.finished ≡ self.old.state.finished) }
-        ensures cause { HasCause self.old.state.faults self.new.state.faults result }
-    {
-        let flushed = flush(&self.rt, &self.path, &mut self.file);
-        self.tally.finish(flushed)
-    }
-}
-
-/// The file, made or emptied where it isn't open yet.
-fn created<R: Files>(rt: &R, path: &str, file: &mut Option<R::File>) -> io::Result<R::File> {
-    match file.take() {
-        Some(opened) => Ok(opened),
-        None => fs::create(rt, path),
-    }
-}
-
-fn write_some<R: Files>(
-    rt: &R,
-    path: &str,
-    file: &mut Option<R::File>,
-    bytes: &[u8],
-) -> io::Result<usize>
-    ensures { IfOk result (λ n. n ≤ length bytes.now) }
-{
-    let mut opened = created(rt, path, file)?;
-    let count = opened.write(bytes);
-    *file = Some(opened);
-    count
-}
-
-fn flush<R: Files>(rt: &R, path: &str, file: &mut Option<R::File>) -> io::Result<()> {
-    let mut opened = created(rt, path, file)?;
-    let done = opened.flush();
-    *file = Some(opened);
-    done
 }
 
 /// Standard output.

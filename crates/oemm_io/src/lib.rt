@@ -2,6 +2,7 @@
 #![tactic(auto)]
 
 mod copies;
+mod file_sink;
 mod files;
 mod flows;
 mod head;
@@ -9,7 +10,8 @@ mod memory;
 mod tally;
 mod whole;
 
-pub use files::{FileSink, FileSource, StdSink};
+pub use file_sink::FileSink;
+pub use files::{FileSource, StdSink};
 pub use flows::{BLOCK, Failed, Sink, Source};
 pub use head::Headed;
 pub use memory::{MemSink, MemSource};

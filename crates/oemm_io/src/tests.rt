@@ -6,7 +6,10 @@ use super::*;
 use faulty::Faulty;
 use std::alloc::Global;
 use std::fs;
+use std::fs::Permissions;
 use std::io::ErrorKind;
+use std::os::unix::fs::{PermissionsExt, symlink};
+use std::rt::Files;
 use std::test::Fail;
 
 mod faulty;
@@ -92,7 +95,7 @@ fn a_sink_holds_a_front_after_a_fault(rt: HostRuntime) -> Result<(), Fail> {
 #[test]
 fn a_file_goes_on_where_the_last_call_ended(rt: HostRuntime) -> Result<(), Fail> {
     let path = "oemm_io-round-trip";
-    let mut sink = FileSink::new(rt.clone()?, String::from_str(rt.alloc(), path)?);
+    let mut sink = FileSink::new(rt.clone()?, rt.alloc(), String::from_str(rt.alloc(), path)?);
     assert_eq!(rt; sink.put(b"so"), Ok(2));
     let (_, done) = put_all(sink, b"lid");
     assert_eq!(rt; done, Ok(()));
@@ -113,11 +116,104 @@ fn no_file_a_folder_and_a_full_device_fail(rt: HostRuntime) -> Result<(), Fail> 
         let mut source = FileSource::new(rt.clone()?, String::from_str(rt.alloc(), path)?);
         assert_eq!(rt; source.take(&mut buf), Err(Failed));
     }
-    let mut folder = FileSink::new(rt.clone()?, String::from_str(rt.alloc(), ".")?);
+    let mut folder = FileSink::new(rt.clone()?, rt.alloc(), String::from_str(rt.alloc(), ".")?);
     assert_eq!(rt; folder.put(b"a"), Err(Failed));
     assert_eq!(rt; folder.finish(), Err(Failed));
-    let mut full = FileSink::new(rt.clone()?, String::from_str(rt.alloc(), "/dev/full")?);
+    let mut full = FileSink::new(
+        rt.clone()?,
+        rt.alloc(),
+        String::from_str(rt.alloc(), "/dev/full")?,
+    );
     assert_eq!(rt; full.put(b"a"), Err(Failed));
+    Ok(())
+}
+
+/// A sink to the path, in which three bytes stand already.
+fn sink_with<R: Files + Drop>(rt: R, alloc: Global, path: &str) -> Result<FileSink<R>, Fail> {
+    let mut sink = FileSink::new(rt, alloc, String::from_str(alloc, path)?);
+    sink.put(b"new")?;
+    Ok(sink)
+}
+
+/// Whether the file has this text.
+fn has(rt: &HostRuntime, path: &str, text: &str) -> Result<bool, Fail> {
+    Ok(fs::read_to_string(rt, path)?.as_str() == text)
+}
+
+#[test]
+fn an_older_file_stands_until_the_finish(rt: HostRuntime) -> Result<(), Fail> {
+    let alloc = rt.alloc();
+    fs::create_dir_all(&rt, "oemm_io-a")?;
+    fs::write(&rt, "oemm_io-a/out", "old")?;
+    symlink(&rt, "out", "oemm_io-a/link")?;
+    for path in ["oemm_io-a/out", "oemm_io-a/link"] {
+        fs::write(&rt, "oemm_io-a/out", "old")?;
+        let unfinished = sink_with(rt.clone()?, alloc, path)?;
+        assert!(rt; has(&rt, "oemm_io-a/out", "old")?);
+        assert!(rt; fs::exists(&rt, "oemm_io-a/out.new")?);
+        drop(unfinished);
+        assert!(rt; !fs::exists(&rt, "oemm_io-a/out.new")?);
+        let mut sink = sink_with(rt.clone()?, alloc, path)?;
+        assert_eq!(rt; sink.finish(), Ok(()));
+        assert_eq!(rt; sink.put(b"er"), Ok(2));
+        assert_eq!(rt; sink.finish(), Ok(()));
+        drop(sink);
+        assert!(rt; has(&rt, "oemm_io-a/out", "newer")?);
+        assert!(rt; !fs::exists(&rt, "oemm_io-a/out.new")?);
+    }
+    assert!(rt; fs::symlink_metadata(&rt, "oemm_io-a/link")?.is_symlink());
+    fs::remove_dir_all(&rt, "oemm_io-a")?;
+    Ok(())
+}
+
+/// Whether a put to the path fails, and the file there has the old text after it.
+fn is_refused(rt: &HostRuntime, path: &str) -> Result<bool, Fail> {
+    let mut sink = FileSink::new(rt.clone()?, rt.alloc(), String::from_str(rt.alloc(), path)?);
+    let put = sink.put(b"new");
+    let finished = sink.finish();
+    drop(sink);
+    Ok(put == Err(Failed) && finished == Err(Failed) && has(rt, path, "old")?)
+}
+
+/// The superuser may write where the system's own users may not.
+#[test]
+fn an_older_file_stands_where_nothing_can_be_written(rt: HostRuntime) -> Result<(), Fail> {
+    fs::create_dir_all(&rt, "oemm_io-b/out.new")?;
+    fs::write(&rt, "oemm_io-b/out", "old")?;
+    assert!(rt; is_refused(&rt, "oemm_io-b/out")?);
+    fs::create_dir_all(&rt, "oemm_io-b/read-only")?;
+    fs::write(&rt, "oemm_io-b/read-only/out", "old")?;
+    fs::write(&rt, "oemm_io-b/kept", "old")?;
+    fs::set_permissions(&rt, "oemm_io-b/kept", Permissions::from_mode(0o444))?;
+    fs::set_permissions(&rt, "oemm_io-b/read-only", Permissions::from_mode(0o555))?;
+    if fs::write(&rt, "oemm_io-b/read-only/probe", "").is_err() {
+        assert!(rt; is_refused(&rt, "oemm_io-b/read-only/out")?);
+        assert!(rt; is_refused(&rt, "oemm_io-b/kept")?);
+    }
+    fs::set_permissions(&rt, "oemm_io-b/read-only", Permissions::from_mode(0o755))?;
+    fs::remove_dir_all(&rt, "oemm_io-b")?;
+    Ok(())
+}
+
+#[test]
+fn what_is_no_regular_file_is_written_in_place(rt: HostRuntime) -> Result<(), Fail> {
+    fs::create_dir_all(&rt, "oemm_io-c")?;
+    for (device, put) in [("/dev/null", Ok(3)), ("/dev/full", Err(Failed))] {
+        symlink(&rt, device, "oemm_io-c/link")?;
+        for path in [device, "oemm_io-c/link"] {
+            let name = String::from_str(rt.alloc(), path)?;
+            let mut sink = FileSink::new(rt.clone()?, rt.alloc(), name);
+            assert_eq!(rt; sink.put(b"new"), put);
+            assert_eq!(rt; sink.finish(), Ok(()));
+            assert!(rt; fs::symlink_metadata(&rt, "oemm_io-c/link")?.is_symlink());
+        }
+        fs::remove_file(&rt, "oemm_io-c/link")?;
+    }
+    symlink(&rt, "absent", "oemm_io-c/link")?;
+    let mut sink = sink_with(rt.clone()?, rt.alloc(), "oemm_io-c/link")?;
+    assert_eq!(rt; sink.finish(), Ok(()));
+    assert!(rt; has(&rt, "oemm_io-c/absent", "new")?);
+    fs::remove_dir_all(&rt, "oemm_io-c")?;
     Ok(())
 }
 
@@ -145,13 +241,27 @@ fn a_file_takes_a_part_and_tells_a_failed_write_and_flush(rt: HostRuntime) -> Re
         (1, ErrorKind::StorageFull, Err(Failed), Ok(()), Ok(2)),
         (2, ErrorKind::StorageFull, Ok(2), Err(Failed), Ok(2)),
         (3, ErrorKind::Interrupted, Ok(2), Ok(()), Err(Failed)),
+        (
+            faulty::SYNC,
+            ErrorKind::StorageFull,
+            Ok(2),
+            Err(Failed),
+            Ok(2),
+        ),
+        (
+            faulty::RENAME,
+            ErrorKind::StorageFull,
+            Ok(2),
+            Err(Failed),
+            Ok(2),
+        ),
     ] {
         let system = Faulty { failing, kind };
-        let mut sink = FileSink::new(system, String::new(rt.alloc()));
+        let mut sink = FileSink::new(system, rt.alloc(), String::new(rt.alloc()));
         assert_eq!(rt; sink.put(b"abc"), first);
         assert_eq!(rt; sink.finish(), flushed);
         assert_eq!(rt; sink.put(b"abc"), second);
-        assert_eq!(rt; sink.finish(), Ok(()));
+        assert_eq!(rt; sink.finish().is_err(), failing >= faulty::SYNC);
     }
     Ok(())
 }

@@ -9,8 +9,14 @@ use std::io;
 use std::io::{Empty, ErrorKind, Read, Seek, SeekFrom, Write};
 use std::rt::Files;
 
+/// The number of a write to the disk as a call that fails.
+pub const SYNC: u8 = 100;
+
+/// The number of a renaming as a call that fails.
+pub const RENAME: u8 = 101;
+
 /// Files and a standard output whose calls are counted from 1, each file's for itself. Each call of
-/// standard output is the first.
+/// standard output is the first. No file is there before it is made.
 #[derive(Clone, Copy)]
 pub struct Faulty {
     /// The call that fails.
@@ -32,15 +38,20 @@ impl Faulty {
             calls: 0,
         }
     }
+
+    /// The call with this number.
+    fn number(self, number: u8) -> io::Result<()> {
+        if number == self.failing {
+            return Err(io::Error::from(self.kind));
+        }
+        Ok(())
+    }
 }
 
 impl FaultyFile {
     fn call(&mut self) -> io::Result<()> {
         self.calls = self.calls.saturating_add(1);
-        if self.calls == self.system.failing {
-            return Err(io::Error::from(self.system.kind));
-        }
-        Ok(())
+        self.system.number(self.calls)
     }
 
     /// How many of so many bytes the next call gives or takes.
@@ -113,7 +124,7 @@ impl OpenFile for FaultyFile {
     }
 
     fn sync_data(&self) -> io::Result<()> {
-        Err(unsupported())
+        self.system.number(SYNC)
     }
 }
 
@@ -136,7 +147,7 @@ impl Files for Faulty {
     }
 
     fn symlink_metadata(&self, _path: &str) -> io::Result<Metadata> {
-        Err(unsupported())
+        Err(io::Error::from(ErrorKind::NotFound))
     }
 
     fn copy(&self, _from: &str, _to: &str) -> io::Result<u64> {
@@ -144,11 +155,11 @@ impl Files for Faulty {
     }
 
     fn rename(&self, _from: &str, _to: &str) -> io::Result<()> {
-        Err(unsupported())
+        self.number(RENAME)
     }
 
     fn remove_file(&self, _path: &str) -> io::Result<()> {
-        Err(unsupported())
+        Ok(())
     }
 
     fn create_dir(&self, _path: &str) -> io::Result<()> {
