@@ -28,19 +28,19 @@ at_least ns up (suc k) lt =
     let same : get_or ns (k + 1) 0 ≡ get_or ns (suc k) 0 = ap (λ (j : ℕ). get_or ns j 0) next in
     omega (arith, le, more, same)
 
-few_climbing : (n : ℕ) (ns : List ℕ) → IsStrictlyIncreasing ns → ((k : ℕ) → k < length ns → get_or ns k 0 < n) → length ns ≤ n
+pub few_climbing : (n : ℕ) (ns : List ℕ) → IsStrictlyIncreasing ns → ((k : ℕ) → k < length ns → get_or ns k 0 < n) → length ns ≤ n
 few_climbing n [] up below = omega arith
 few_climbing n (x ∷ xs) up below =
     let le = at_least (x ∷ xs) up (length xs) (omega arith) in
     let lt = below (length xs) (omega arith) in
     omega (arith, le, lt)
 
-below_at : {X : Type 0} (f : X → ℕ) (n : ℕ) (xs : List X) → AllByRecursion (λ x. f x < n) xs → (k : ℕ) → k < length (map f xs) → get_or (map f xs) k 0 < n
+pub below_at : {X : Type 0} (f : X → ℕ) (n : ℕ) (xs : List X) → AllByRecursion (λ x. f x < n) xs → (k : ℕ) → k < length (map f xs) → get_or (map f xs) k 0 < n
 below_at f n [] all k lt = absurd (omega arith)
 below_at f n (x ∷ xs) all zero lt = all.0
 below_at f n (x ∷ xs) all (suc k) lt = below_at f n xs all.1 k (omega arith)
 
-below_of : (n : ℕ) (ls : List ℕ) → AreBelow n ls → (k : ℕ) → k < length ls → get_or ls k 0 < n
+pub below_of : (n : ℕ) (ls : List ℕ) → AreBelow n ls → (k : ℕ) → k < length ls → get_or ls k 0 < n
 below_of n [] below k lt = absurd (omega arith)
 below_of n (l ∷ ls) below zero lt = below l (is_one_of-head l ls)
 below_of n (l ∷ ls) below (suc k) lt = below_of n ls (λ j on. below j (or_right (eqb j l) (is_one_of ls j) on)) k (omega arith)

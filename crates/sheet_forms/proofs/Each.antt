@@ -29,7 +29,7 @@ abbrev pub EachVertex : (ℕ → Vertex → Type 0) → finite.FinMap nat_cmp Ve
 EachVertex P vs = (v : ℕ) (x : Vertex) → finite.get vs v ≡ Some x → P v x
 
 module _ (P : ℕ → Vertex → Type 0) (other_planes : (v : ℕ) (x : Vertex) (ls : List Plane) → P v x → P v (record { point = x.point; planes = ls })) where
-  each_changed : (g : Vertex → Vertex) (v : ℕ) (vs : finite.FinMap nat_cmp Vertex) → EachVertex P vs → ((x : Vertex) → finite.get vs v ≡ Some x → P v (g x)) → EachVertex P (changed g v vs)
+  pub each_changed : (g : Vertex → Vertex) (v : ℕ) (vs : finite.FinMap nat_cmp Vertex) → EachVertex P vs → ((x : Vertex) → finite.get vs v ≡ Some x → P v (g x)) → EachVertex P (changed g v vs)
   each_changed g v vs each lands w x is =
       elim (eqb w v) as (λ b. eqb w v ≡ b → cond b (option_map g (finite.get vs v)) (finite.get vs w) ≡ Some x → P w x) [
         | true ↦ λ here h. elim (finite.get vs v) as (λ o. finite.get vs v ≡ o → option_map g o ≡ Some x → P w x) [
@@ -46,20 +46,20 @@ module _ (P : ℕ → Vertex → Type 0) (other_planes : (v : ℕ) (x : Vertex) 
         | false ↦ λ h. each w x h
       ] (sym (finite.get-remove nat_cmp_total vs u w) ∙ is)
 
-  each_collapsed : (m : Mesh) (u v : ℕ) → EachVertex P m.vertices → EachVertex P (collapsed m u v).vertices
+  pub each_collapsed : (m : Mesh) (u v : ℕ) → EachVertex P m.vertices → EachVertex P (collapsed m u v).vertices
   each_collapsed m u v each =
       let g : Vertex → Vertex = λ x. record x { planes = x.planes ++ planes_or_none m u } in
       each_removed u (changed g v m.vertices) (each_changed g v m.vertices each (λ x is. other_planes v x (x.planes ++ planes_or_none m u) (each v x is)))
 
-  each_steps : (ss : List Step) (m : Mesh) → EachVertex P m.vertices → EachVertex P (collapsed_by m ss).vertices
+  pub each_steps : (ss : List Step) (m : Mesh) → EachVertex P m.vertices → EachVertex P (collapsed_by m ss).vertices
   each_steps [] m each = each
   each_steps (s ∷ ss) m each = each_steps ss (collapsed m s.u s.v) (each_collapsed m s.u s.v each)
 
-  each_if : (m n : Mesh) (b : Bool) → EachVertex P m.vertices → (b ≡ true → EachVertex P n.vertices) → EachVertex P (cond b n m).vertices
+  pub each_if : (m n : Mesh) (b : Bool) → EachVertex P m.vertices → (b ≡ true → EachVertex P n.vertices) → EachVertex P (cond b n m).vertices
   each_if m n true each h = h refl
   each_if m n false each h = each
 
-  each_flipped : (m : Mesh) (a b : ℕ) → EachVertex P m.vertices → EachVertex P (flipped m a b).vertices
+  pub each_flipped : (m : Mesh) (a b : ℕ) → EachVertex P m.vertices → EachVertex P (flipped m a b).vertices
   each_flipped m a b each =
       elim (opposites m.tris a b) as (λ o. EachVertex P (option_map_or (λ ends. let k : Mesh = record { vertices = m.vertices; tris = flipped_tris a b ends.0 ends.1 m.tris } in k) o m).vertices) [ None ↦ each | Some ends ↦ each ]
 

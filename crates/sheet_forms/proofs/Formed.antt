@@ -11,7 +11,7 @@ use Rattle.std.specs.FinMap as finite
 use Rattle.std.specs.FinMap.Entries.{find, is_sorted, below_all}
 use Rattle.std.specs.List.{filter, list_any, AllByRecursion, range_with_len}
 use Rattle.std.specs.List.Sorted.{IsSorted, IsStrictlyIncreasing}
-use Rattle.std.specs.Option.{option_map_or}
+use Rattle.std.specs.Option.{is_some, option_map_or}
 use Rattle.std.specs.Ordering.{nat_cmp, is_eq, eq_by_cmp}
 use Rattle.oemm_octree.specs.declared.points.Point.{Point}
 use Rattle.oemm_octree.specs.declared.cells.Cell.{Cell}
@@ -33,7 +33,7 @@ use Rattle.mesh_sheets.specs.Sheets.{leaf_of, leaves_of, keeper, are_near, summe
 use Rattle.mesh_sheets.specs.Assembled.{has_name}
 use Rattle.sheet_forms.specs.Formed.{IsSheetOf}
 use Rattle.triangle_lists.proofs.Orders.{tri_cmp_total, tri_cmp-IsAntisymmetric}
-use Rattle.triangle_lists.proofs.Sorting.{IsSorted-in_order, Rises-from_sorted}
+use Rattle.triangle_lists.proofs.Sorting.{IsSorted-in_order, Rises, Rises-from_sorted}
 use Rattle.mesh_sheets.proofs.Filters.{in_order_already, rises_filter, one_of_filter, all_weaker, map-map}
 use Rattle.mesh_sheets.proofs.Climbing.{increasing, keys_climb, range_climbs}
 use Rattle.mesh_sheets.proofs.Gathered.{has_held}
@@ -107,11 +107,13 @@ few_each (e ∷ es) n few none = ((omega arith, omega arith), few_each es n (ome
 
 -- ---- sheets
 
+-- triangles of which none is below one before it are in order
+pub sorted_rises : (ts : List Tri) → Rises tri_cmp_total ts → IsSorted tri_cmp ts
+sorted_rises ts rises = subst (IsSorted tri_cmp) (in_order_already tri_cmp_total tri_cmp-IsAntisymmetric ts rises) (IsSorted-in_order tri_cmp_total ts)
+
 -- what a test keeps of triangles in order is in order
 sorted_filter : (p : Tri → Bool) (ts : List Tri) → IsSorted tri_cmp ts → IsSorted tri_cmp (filter p ts)
-sorted_filter p ts sorted =
-    subst (IsSorted tri_cmp) (in_order_already tri_cmp_total tri_cmp-IsAntisymmetric (filter p ts) (rises_filter tri_cmp_total tri_cmp-IsAntisymmetric p ts (Rises-from_sorted tri_cmp_total ts sorted)))
-    (IsSorted-in_order tri_cmp_total (filter p ts))
+sorted_filter p ts sorted = sorted_rises (filter p ts) (rises_filter tri_cmp_total tri_cmp-IsAntisymmetric p ts (Rises-from_sorted tri_cmp_total ts sorted))
 
 module _ (cells : List Cell) (m : Mesh) (leaf n : ℕ) (lt : leaf < length cells) (clean : IsClean m) (named : AreNamed n m) (has : HasPlanes m.vertices) where
   abbrev in_leaf : Point → Bool
@@ -158,6 +160,22 @@ module _ (cells : List Cell) (m : Mesh) (leaf n : ℕ) (lt : leaf < length cells
         ])
       ]
 
+  -- a name that a vertex has is one of the names
+  name_below : (v : ℕ) → finite.contains_key m.vertices v ≡ true → v < n
+  name_below v there =
+      elim (finite.get m.vertices v) as (λ o. finite.get m.vertices v ≡ o → is_some o ≡ true → v < n) [
+        | None ↦ λ _ h. absurd (false≢true h)
+        | Some x ↦ λ is _. named v x is
+      ] refl there
+
+  abbrev kept : List Tri
+  kept = filter (λ t. eqb (keeper cells m t) leaf) m.tris
+
+  all_kept : (P : Tri → Type 0) → ((t : Tri) → IsTriangleOf m.vertices t × (eqb (keeper cells m t) leaf ≡ true) → P t) → All P kept
+  all_kept P h =
+      All-from_recursion P kept (all_weaker (λ t. IsTriangleOf m.vertices t × (eqb (keeper cells m t) leaf ≡ true)) P h kept
+      (filter_each (IsTriangleOf m.vertices) (λ t. eqb (keeper cells m t) leaf) m.tris (recursion_from_All (IsTriangleOf m.vertices) m.tris clean.corners)))
+
   pub sheet_formed : IsSheetOf cells n leaf (sheet cells m leaf)
   unfolding sheet
   sheet_formed = record {
@@ -166,10 +184,8 @@ module _ (cells : List Cell) (m : Mesh) (leaf n : ℕ) (lt : leaf < length cells
     below = all_summed (λ x. x.name < n) (λ e good. good.0.0);
     homes = all_summed (λ x. home cells x.point ≡ leaf) (λ e good. eqb-true (home cells e.1.point) leaf good.1);
     bounded = all_summed (λ x. AreBounded x.quad) (λ e good. sums_bounded e.1.planes good.0.1 good.0.2);
-    faces = All-from_recursion (λ t. IsProper t × (turned t ≡ t) × (list_any (has_name (map summed here)) (corners t) ≡ true)) _
-        (all_weaker (λ t. IsTriangleOf m.vertices t × (eqb (keeper cells m t) leaf ≡ true)) (λ t. IsProper t × (turned t ≡ t) × (list_any (has_name (map summed here)) (corners t) ≡ true))
-        (λ t is. (is.0.proper, is.0.is_turned, kept_has t is.1)) (filter (λ t. eqb (keeper cells m t) leaf) m.tris)
-        (filter_each (IsTriangleOf m.vertices) (λ t. eqb (keeper cells m t) leaf) m.tris (recursion_from_All (IsTriangleOf m.vertices) m.tris clean.corners)));
+    faces = all_kept (λ t. IsProper t × (turned t ≡ t) × (list_any (has_name (map summed here)) (corners t) ≡ true)) (λ t is. (is.0.proper, is.0.is_turned, kept_has t is.1));
+    face_names = all_kept (λ t. All (λ v. v < n) (corners t)) (λ t is. All-from_recursion (λ v. v < n) (corners t) (name_below t.a is.0.a, (name_below t.b is.0.b, (name_below t.c is.0.c, tt))));
     sorted = sorted_filter (λ t. eqb (keeper cells m t) leaf) m.tris clean.sorted;
     near_ascend = IsStrictlyIncreasing-filter (are_near cells m leaf) (range_with_len 0 (length cells)) (increasing (range_with_len 0 (length cells)) (range_climbs 0 (length cells)));
     near_below = λ l on. let h = range_below (are_near cells m leaf) l 0 (length cells) on in omega arith;

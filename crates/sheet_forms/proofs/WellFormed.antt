@@ -4,22 +4,25 @@ use Rattle.std.proofs.lemmas.Bool.{and_parts, eqb-true, eq-eqb, ne_eqb, false≢
 use Rattle.std.proofs.lemmas.List.Elements.{All-from_recursion, recursion_from_All, All-contains, Contains-append_left, Contains-append_right}
 use Rattle.std.proofs.lemmas.List.{length-map}
 use Rattle.std.proofs.lemmas.List.Recursion.{is_sum_by}
+use Rattle.std.proofs.lemmas.Cmp.{on_total, then_total}
 use Rattle.std.proofs.lemmas.List.Sorted.{length_permutation}
-use Rattle.std.specs.Cmp.{nat_cmp_total, unsigned_tied}
+use Rattle.std.specs.Cmp.{IsTotalOrder, nat_cmp_total, unsigned_tied}
 use Rattle.std.specs.FinMap as finite
 use Rattle.std.specs.FinMap.Entries.{find, put, by_order}
 use Rattle.std.specs.List.{filter, list_any, list_all, Contains, AllByRecursion, find as list_find}
 use Rattle.std.specs.Option.{option_map_or}
-use Rattle.std.specs.List.Sorted.{IsStrictlyIncreasing}
-use Rattle.std.specs.Ordering.{nat_cmp, is_le, eq_by_cmp}
+use Rattle.std.specs.List.Sorted.{IsSorted, IsStrictlyIncreasing}
+use Rattle.std.specs.Ordering.{nat_cmp, is_gt, is_le, eq_by_cmp, ordering_then}
 use Rattle.std.specs.declared.cmp.Ordering.TheVariants.{Less, Equal, Greater}
-use Rattle.triangle_lists.proofs.Sorting.{IsPermutation-in_order, weight}
+use Rattle.triangle_lists.proofs.Filters.{filter-in_order}
+use Rattle.triangle_lists.proofs.Orders.{tri_cmp_total}
+use Rattle.triangle_lists.proofs.Sorting.{IsLeast, IsPermutation-in_order, IsSorted-in_order, Rises, Rises-in_order, weight}
 use Rattle.std.specs.declared.cmp.Ordering.{Ordering}
 use Rattle.oemm_limits.specs.declared.TheConstants.{MOST_ITEMS}
 use Rattle.oemm_octree.specs.declared.cells.Cell.{Cell}
 use Rattle.mesh_data.specs.declared.geometry.Tri.{Tri}
 use Rattle.oemm_lists.specs.Ascending.{inserted, in_order}
-use Rattle.mesh_data.specs.Triangles.{IsProper, turned, corners}
+use Rattle.mesh_data.specs.Triangles.{IsProper, turned, corners, tri_cmp}
 use Rattle.sheet_data.specs.declared.sheets.LeafSheet.{LeafSheet}
 use Rattle.sheet_data.specs.declared.patches.Mixed.{Mixed}
 use Rattle.sheet_data.specs.declared.patches.NearList.{NearList}
@@ -32,7 +35,7 @@ use Rattle.sheet_forms.specs.Formed.{IsSheetOf, IsPatchFor, AreGiven, AreAgreed}
 use Rattle.mesh_sheets.proofs.Kept.{true_of_T}
 use Rattle.sheet_forms.proofs.Distinct.{distinct_told}
 use Rattle.mesh_sheets.proofs.Climbing.{keys_climb, increasing}
-use Rattle.sheet_forms.proofs.Formed.{entries_each, filter_each, map_each}
+use Rattle.sheet_forms.proofs.Formed.{entries_each, filter_each, map_each, sorted_rises}
 use Rattle.mesh_sheets.proofs.Sorts.{names, pairs, found_there}
 
 -- ---- vertices by name
@@ -89,6 +92,35 @@ each_append P (x ∷ xs) ys a b = (a.0, each_append P xs ys a.1 b)
 each_any : {X : Type 0} (P : X → Type 0) → ((x : X) → P x) → (xs : List X) → AllByRecursion P xs
 each_any P h [] = tt
 each_any P h (x ∷ xs) = (h x, each_any P h xs)
+
+-- ---- triangles in order, with the leaves that keep them and without
+
+mixed_cmp_total : IsTotalOrder mixed_cmp
+mixed_cmp_total = then_total (on_total (λ x. x.tri) tri_cmp_total) (on_total (λ x. x.leaf) nat_cmp_total)
+
+first_not_above : (a b : Ordering) → is_gt (ordering_then a b) ≡ false → is_gt a ≡ false
+first_not_above Less b h = refl
+first_not_above Equal b h = refl
+first_not_above Greater b h = h
+
+least_tri : (x : Mixed) (xs : List Mixed) → IsLeast mixed_cmp_total x xs → IsLeast tri_cmp_total x.tri (map (λ y. y.tri) xs)
+least_tri x [] h = tt
+least_tri x (y ∷ ys) h = (first_not_above (tri_cmp x.tri y.tri) (nat_cmp x.leaf y.leaf) h.0, least_tri x ys h.1)
+
+rising_tris : (xs : List Mixed) → Rises mixed_cmp_total xs → Rises tri_cmp_total (map (λ x. x.tri) xs)
+rising_tris [] r = tt
+rising_tris (x ∷ xs) r = (least_tri x xs r.0, rising_tris xs r.1)
+
+-- what a test keeps of a list put in order is in order, and so are its triangles
+kept_sorted : (p : Mixed → Bool) (xs : List Mixed) → IsSorted mixed_cmp (filter p (in_order mixed_cmp xs))
+kept_sorted p xs = subst (IsSorted mixed_cmp) (sym (filter-in_order mixed_cmp_total p xs)) (IsSorted-in_order mixed_cmp_total (filter p xs))
+
+kept_tris_sorted : (p : Mixed → Bool) (xs : List Mixed) → IsSorted tri_cmp (map (λ x. x.tri) (filter p (in_order mixed_cmp xs)))
+kept_tris_sorted p xs =
+    subst (λ (ys : List Mixed). IsSorted tri_cmp (map (λ x. x.tri) ys)) (sym (filter-in_order mixed_cmp_total p xs))
+    (sorted_rises _ (rising_tris (in_order mixed_cmp (filter p xs)) (Rises-in_order mixed_cmp_total (filter p xs))))
+
+-- ---- leaves of a core
 
 leaves_in : (core : List ℕ) (inner : List LeafSheet) → ((l : ℕ) → is_one_of (map (λ (s : LeafSheet). s.leaf) inner) l ≡ true → is_one_of core l ≡ true) → AllByRecursion (λ (s : LeafSheet). is_one_of core s.leaf ≡ true) inner
 leaves_in core [] h = tt
@@ -322,6 +354,8 @@ assembled_formed cells n core inner outer given agreed =
       whole = whole_found cells n core inner outer given;
       touch = touch_found cells n core inner outer given;
       not_whole = not_whole_found cells n core inner outer given;
+      whole_sorted = kept_tris_sorted whole (flat_map faces_of (inner ++ outer));
+      mixed_sorted = kept_sorted mixed (flat_map faces_of (inner ++ outer));
       kept = leaf_of_mixed;
       lists = lists_found cells n core inner outer given;
       outside = outside_found cells n core inner outer given;

@@ -10,11 +10,11 @@ use Rattle.mesh_data.specs.Rings.{are_distinct}
 use Rattle.mesh_data.specs.Triangles.{IsProper, corners, tri_cmp, turned}
 use Rattle.sheet_data.specs.declared.patches.Patch.{Patch}
 use Rattle.sheet_data.specs.declared.sheets.LeafSheet.{LeafSheet}
-use Rattle.mesh_sheets.specs.Assembled.{faces_of, has_name}
+use Rattle.mesh_sheets.specs.Assembled.{faces_of, has_name, mixed_cmp}
 use Rattle.mesh_sheets.specs.Written.{leaves_by, patch_tris}
 
 -- A sheet of a leaf: names below so many, that ascend, of points whose home is the leaf; turned triangles of three
--- different names, in order, each with one of these names; and other leaves, that ascend.
+-- different names below so many, in order, each with one of the sheet's names; and other leaves, that ascend.
 pub record IsSheetOf (cells : List Cell) (names leaf : ℕ) (s : LeafSheet) : Type 0 where
   pub is_leaf : s.leaf ≡ leaf
   pub ascend : IsStrictlyIncreasing (map (λ x. x.name) s.vertices)
@@ -22,14 +22,15 @@ pub record IsSheetOf (cells : List Cell) (names leaf : ℕ) (s : LeafSheet) : Ty
   pub homes : All (λ x. home cells x.point ≡ leaf) s.vertices
   pub bounded : All (λ x. AreBounded x.quad) s.vertices
   pub faces : All (λ t. IsProper t × (turned t ≡ t) × (list_any (has_name s.vertices) (corners t) ≡ true)) s.faces
+  pub face_names : All (λ t. All (λ v. v < names) (corners t)) s.faces
   pub sorted : IsSorted tri_cmp s.faces
   pub near_ascend : IsStrictlyIncreasing s.near
   pub near_below : AreBelow (length cells) s.near
   pub near_others : is_one_of s.near leaf ≡ false
 
 -- A patch that is well formed for a core: names that ascend, of points whose home is in the core; triangles of three,
--- and of one or two, of these names, these with the leaf that keeps them; and a list of leaves outside of the core for
--- each of its leaves, in their order.
+-- and of one or two, of these names, these with the leaf that keeps them, both in order; and a list of leaves outside
+-- of the core for each of its leaves, in their order.
 pub record IsPatchFor (cells : List Cell) (core : List ℕ) (p : Patch) : Type 0 where
   pub ascend : IsStrictlyIncreasing (map (λ x. x.name) p.vertices)
   pub below : All (λ x. x.name < MOST_ITEMS) p.vertices
@@ -38,6 +39,8 @@ pub record IsPatchFor (cells : List Cell) (core : List ℕ) (p : Patch) : Type 0
   pub whole : All (λ t. list_all (has_name p.vertices) (corners t) ≡ true) p.whole
   pub touch : All (λ x. list_any (has_name p.vertices) (corners x.tri) ≡ true) p.mixed
   pub not_whole : All (λ x. list_all (has_name p.vertices) (corners x.tri) ≡ false) p.mixed
+  pub whole_sorted : IsSorted tri_cmp p.whole
+  pub mixed_sorted : IsSorted mixed_cmp p.mixed
   pub kept : All (λ x. is_one_of core x.leaf ≡ true → is_one_of (leaves_by cells p.vertices x.tri) x.leaf ≡ true)
       p.mixed
   pub lists : map (λ l. l.leaf) p.near ≡ core
