@@ -1,0 +1,11 @@
+pub mod Verdicts
+pub mod Prices
+pub mod Turns
+pub mod Rooms
+pub mod Fills
+pub mod Fits
+pub mod Starts
+pub mod Wholes
+pub mod Arounds
+pub mod Nexts
+pub mod StepLaws
