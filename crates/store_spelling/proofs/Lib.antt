@@ -1,0 +1,4 @@
+pub mod Readings
+pub mod Parted
+pub mod SheetRules
+pub mod IndexRules
