@@ -1,0 +1,4 @@
+pub mod Sorted
+pub mod Vertices
+pub mod Made
+pub mod Agrees

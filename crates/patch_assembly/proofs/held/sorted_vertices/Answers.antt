@@ -1,0 +1,8 @@
+use Rattle.std.proofs.Common.{rules}
+use Rattle.std.proofs.lemmas.List.Sorted.{IsNonDecreasingBy-from_sort_by_key}
+use Rattle.patch_assembly.proofs.Vertices.{name}
+use Rattle.patch_assembly.proofs.held.sorted_vertices.Goals as goal
+
+pub returns-clause-sorted : goal.returns-clause-sorted
+returns-clause-sorted c =
+    IsNonDecreasingBy-from_sort_by_key name _ c.sort_unstable_by_key.ensures.sorted (λ a r q k. search rules)
