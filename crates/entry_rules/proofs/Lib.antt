@@ -1,0 +1,7 @@
+pub mod Costs
+pub mod Ends
+pub mod Steps
+pub mod Ready
+pub mod Verdicts
+pub mod Tasks
+pub mod Entries
