@@ -1,0 +1,6 @@
+//! Which lane holds which leaves.
+#![tactic(auto)]
+
+mod table;
+
+pub use table::{Busy, Table};
