@@ -7,3 +7,4 @@ pub mod Tried
 pub mod Simplification
 pub mod EulerLaws
 pub mod Eulers
+pub mod Corners

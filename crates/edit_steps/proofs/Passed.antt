@@ -7,12 +7,14 @@ use Rattle.oemm_octree.specs.declared.points.Point.{Point}
 use Rattle.mesh_data.specs.declared.edits.Edit.TheVariants.{Collapse}
 use Rattle.mesh_data.specs.declared.edits.Reply.{Reply}
 use Rattle.mesh_data.specs.declared.edits.Reply.TheVariants.{Unheld, Frozen, Outside, Link, Folds, Done, DoneAt}
-use Rattle.mesh_data.specs.Edits.{after, collapsed, first_line, if_any, edge_line, is_done, is_held, is_free, pair_lines, folds_with, cost, collapse_verdict, flip_verdict, move_verdict}
+use Rattle.mesh_data.specs.Edits.{after, collapsed, first_line, if_any, edge_line, is_done, is_held, is_free, pair_lines, folds_with, cost, collapse_verdict, collapse_verdict_by, flip_verdict, move_verdict}
 use Rattle.mesh_data.specs.Links.{are_neighbours, opposites, link_violation, is_closed_by_three}
 use Rattle.mesh_data.specs.Mesh.{Mesh}
 use Rattle.mesh_data.specs.Rings.{has_closed_ring}
 use Rattle.triangle_edits.proofs.Turns.{apexes_differ}
-use Rattle.edit_steps.proofs.Lines.{link_lines, price_lines, turn_lines}
+pub use Rattle.edit_steps.specs.Passed.{PairPassed, CollapsePassed, FlipPassed}
+use Rattle.edit_steps.specs.Lines.{refusal}
+use Rattle.edit_steps.proofs.Lines.{link_lines, price_lines_by, turn_lines}
 
 -- a line that applies refuses
 abbrev refuse : List (Bool × Reply) → Bool
@@ -39,15 +41,6 @@ none_of reply (Some x) h = absurd (false≢true h)
 not_not : (b : Bool) → not (not b) ≡ true → b ≡ true
 not_not b h = not-false b (not-true (not b) h)
 
--- what is so of an edit of two names that is done
-pub record PairPassed (inside : Point → Bool) (m : Mesh) (u v : ℕ) : Type 0 where
-  pub held : is_held inside m u ≡ true
-  pub onto_held : is_held inside m v ≡ true
-  pub apart : u ≢ v
-  pub free : is_free inside m u ≡ true
-  pub onto_free : is_free inside m v ≡ true
-  pub near : are_neighbours m.tris u v ≡ true
-
 pair_passed : (inside : Point → Bool) (m : Mesh) (u v : ℕ) (ls : List (Bool × Reply)) → list_all (λ l. not l.0) (pair_lines inside m u v ++ ls) ≡ true → PairPassed inside m u v × (list_all (λ l. not l.0) ls ≡ true)
 pair_passed inside m u v ls h =
     let of_u = and_parts (not (not (is_held inside m u))) _ h in
@@ -67,25 +60,27 @@ pair_passed inside m u v ls h =
       of_near.1,
     )
 
--- a collapse that is done is so at its cost
-collapse_done : (inside : Point → Bool) (m : Mesh) (u v : ℕ) (most : ℤ) → is_done (collapse_verdict inside m u v most) ≡ true → (collapse_verdict inside m u v most ≡ DoneAt (cost m u v)) × (list_all (λ l. not l.0) (pair_lines inside m u v ++ (link_lines m u v ++ price_lines m u v most)) ≡ true)
-collapse_done inside m u v most done =
+none_refuses : (ls : List (Bool × Reply)) → refusal ls ≡ None → list_all (λ l. not l.0) ls ≡ true
+none_refuses [] h = refl
+none_refuses (l ∷ ls) h =
+    elim l.0 as (λ b. cond b (Some l.1) (refusal ls) ≡ None → (not b && list_all (λ k. not k.0) ls) ≡ true) [ true ↦ λ e. absurd (cc) | false ↦ λ e. none_refuses ls e ] h
+
+-- what is so of an edit of two names that the first lines don't refuse
+pub pair_unrefused : (inside : Point → Bool) (m : Mesh) (u v : ℕ) → refusal (pair_lines inside m u v) ≡ None → PairPassed inside m u v
+pair_unrefused inside m u v none = (pair_passed inside m u v [] (none_refuses (pair_lines inside m u v) none)).0
+
+-- a collapse that is done is so at its price
+collapse_done : (price : ℤ) (inside : Point → Bool) (m : Mesh) (u v : ℕ) (most : ℤ) → is_done (collapse_verdict_by price inside m u v most) ≡ true
+    → (collapse_verdict_by price inside m u v most ≡ DoneAt price) × (list_all (λ l. not l.0) (pair_lines inside m u v ++ (link_lines m u v ++ price_lines_by price m u v most)) ≡ true)
+collapse_done price inside m u v most done =
     let link = some_refuses Link (link_violation m.tris u v) (λ w. refl) in
     let folds = some_refuses Folds (find (folds_with m u v) m.tris) (λ t. refl) in
-    passes (pair_lines inside m u v ++ (link_lines m u v ++ price_lines m u v most)) (DoneAt (cost m u v)) (λ i. link i && (folds i && true)) done
+    passes (pair_lines inside m u v ++ (link_lines m u v ++ price_lines_by price m u v most)) (DoneAt price) (λ i. link i && (folds i && true)) done
 
--- what is so of a collapse that is done
-pub record CollapsePassed (inside : Point → Bool) (m : Mesh) (u v : ℕ) : Type 0 where
-  pub pair : PairPassed inside m u v
-  pub closed : has_closed_ring m.tris u ≡ true
-  pub unshared : link_violation m.tris u v ≡ None
-  pub not_three : (is_closed_by_three m.tris u && is_closed_by_three m.tris v) ≡ false
-  pub unfolded : find (folds_with m u v) m.tris ≡ None
-
-pub collapse_passed : (inside : Point → Bool) (m : Mesh) (u v : ℕ) (most : ℤ) → is_done (collapse_verdict inside m u v most) ≡ true → CollapsePassed inside m u v
-collapse_passed inside m u v most done =
-    let all = (collapse_done inside m u v most done).1 in
-    let pair = pair_passed inside m u v (link_lines m u v ++ price_lines m u v most) all in
+pub collapse_passed_by : (price : ℤ) (inside : Point → Bool) (m : Mesh) (u v : ℕ) (most : ℤ) → is_done (collapse_verdict_by price inside m u v most) ≡ true → CollapsePassed inside m u v
+collapse_passed_by price inside m u v most done =
+    let all = (collapse_done price inside m u v most done).1 in
+    let pair = pair_passed inside m u v (link_lines m u v ++ price_lines_by price m u v most) all in
     let of_ring = and_parts (not (not (has_closed_ring m.tris u))) _ pair.1 in
     let of_link = and_parts (not (if_any Link (link_violation m.tris u v)).0) _ of_ring.1 in
     let of_three = and_parts (not (is_closed_by_three m.tris u && is_closed_by_three m.tris v)) _ of_link.1 in
@@ -98,11 +93,14 @@ collapse_passed inside m u v most done =
       unfolded = none_of Folds (find (folds_with m u v) m.tris) of_fold.0;
     }
 
+pub collapse_passed : (inside : Point → Bool) (m : Mesh) (u v : ℕ) (most : ℤ) → is_done (collapse_verdict inside m u v most) ≡ true → CollapsePassed inside m u v
+collapse_passed inside m u v most done = collapse_passed_by (cost m u v) inside m u v most done
+
 -- another answer leaves the mesh
 pub collapse_kept : (inside : Point → Bool) (m : Mesh) (u v : ℕ) (most : ℤ) (reply : Reply) → reply ≡ collapse_verdict inside m u v most → ((c : ℤ) → reply ≡ DoneAt c → ⊥) → m ≡ after m (Collapse u v most) reply
 collapse_kept inside m u v most reply is other =
     elim (is_done reply) as (λ b. is_done reply ≡ b → m ≡ cond b (collapsed m u v) m) [
-      | true ↦ λ done. absurd (other (cost m u v) (is ∙ (collapse_done inside m u v most (ap is_done (sym is) ∙ done)).0))
+      | true ↦ λ done. absurd (other (cost m u v) (is ∙ (collapse_done (cost m u v) inside m u v most (ap is_done (sym is) ∙ done)).0))
       | false ↦ λ done. refl
     ] refl
 
@@ -119,15 +117,7 @@ pub can_collapse : (inside : Point → Bool) (m : Mesh) (u v : ℕ) (most cost_o
 unfolding cost_told
 can_collapse inside m u v most cost_of is =
     let done = ap is_done is in
-    record { pair = (collapse_passed inside m u v most done).pair; costs = ap cost_told (sym is ∙ (collapse_done inside m u v most done).0) }
-
--- what is so of a flip that is done
-pub record FlipPassed (inside : Point → Bool) (m : Mesh) (a b : ℕ) : Type 0 where
-  pub pair : PairPassed inside m a b
-  pub c : ℕ
-  pub d : ℕ
-  pub ends : opposites m.tris a b ≡ Some (c, d)
-  pub new : are_neighbours m.tris c d ≡ false
+    record { pair = (collapse_passed inside m u v most done).pair; costs = ap cost_told (sym is ∙ (collapse_done (cost m u v) inside m u v most done).0) }
 
 edge_refuses : (m : Mesh) (o : Option (ℕ × ℕ)) → not (is_done (edge_line m.tris o).1 && (edge_line m.tris o).0) ≡ true
 edge_refuses m None = refl

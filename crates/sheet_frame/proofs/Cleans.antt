@@ -71,7 +71,7 @@ there_after m u v w there other =
     ∙ contains-changed taking v w m.vertices
     ∙ there
 
-few_collapsed : (u v : ℕ) (ts : List Tri) → length (collapsed_tris u v ts) ≤ length ts
+pub few_collapsed : (u v : ℕ) (ts : List Tri) → length (collapsed_tris u v ts) ≤ length ts
 unfolding collapsed_tris
 few_collapsed u v ts =
     let put : Tri → Tri = λ t. turned (substituted u v t) in

@@ -27,7 +27,8 @@ use Rattle.triangle_lists.proofs.Sorting.{Rises-from_sorted}
 use Rattle.mesh_sheets.proofs.Leaves.{leaf_held}
 use Rattle.mesh_sheets.proofs.Kept.{keep, same_kept}
 use Rattle.sheet_frame.proofs.Rest.{seat, all_in, SameRest, SameRest-refl}
-use Rattle.sheet_frame.proofs.Free.{EachCorner, free_corners, third_passes, CanMove}
+use Rattle.edit_steps.proofs.Corners.{EachCorner, free_corners, third_passes}
+use Rattle.sheet_frame.proofs.Free.{CanMove}
 use Rattle.edit_steps.proofs.Passed.{PairPassed}
 use Rattle.sheet_frame.proofs.Changed.{Stays, rest_of_changed, all_in_from, all_in_turned}
 
