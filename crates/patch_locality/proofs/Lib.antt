@@ -1,4 +1,1 @@
-pub mod Fragments
-pub mod Kernels
-pub mod Sight
 pub mod Locality

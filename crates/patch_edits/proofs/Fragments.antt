@@ -21,7 +21,7 @@ use Rattle.sheet_frame.proofs.Rest.{Seat, seat, seat_leaves, seat_keeper, all_in
 use Rattle.sheet_frame.proofs.Changed.{Stays, all_in_turned}
 use Rattle.sheet_frame.proofs.Frame.{stays_collapsed, flip_stays, whole_of_held}
 use Rattle.edit_steps.proofs.Passed.{PairPassed}
-use Rattle.sheet_frame.proofs.Free.{free_corners, third_passes}
+use Rattle.edit_steps.proofs.Corners.{free_corners, third_passes}
 use Rattle.triangle_edits.proofs.Turns.{any_turns, ends_of}
 use Rattle.triangle_lists.proofs.Filters.{filter-in_order}
 

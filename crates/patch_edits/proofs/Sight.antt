@@ -6,20 +6,19 @@ use Rattle.std.specs.Option.{option_zip, is_none}
 use Rattle.oemm_octree.specs.declared.points.Point.{Point}
 use Rattle.mesh_data.specs.declared.geometry.Tri.{Tri}
 use Rattle.mesh_data.specs.declared.edits.Reply.{Reply}
-use Rattle.mesh_data.specs.Edits.{if_any, is_held, is_free, pair_lines, edge_line, point_or_origin, planes_or_none, plane_in, substituted, renamed, folds_with, cost, move_verdict, collapse_verdict, flip_verdict}
+use Rattle.mesh_data.specs.Edits.{if_any, is_held, is_free, pair_lines, edge_line, point_or_origin, plane_in, substituted, renamed, folds_with, move_verdict, collapse_verdict_by, flip_verdict}
 use Rattle.mesh_data.specs.Links.{are_neighbours, apex, opposites, link_violation, is_closed_by_three}
 use Rattle.mesh_data.specs.Mesh.{Mesh}
-use Rattle.mesh_data.specs.Planes.{Sums, plane_of, folds, sums_of, sums_value, added}
+use Rattle.mesh_data.specs.Planes.{plane_of, folds}
 use Rattle.mesh_data.specs.Rings.{has_closed_ring}
 use Rattle.mesh_data.specs.Seen.{touches}
 use Rattle.mesh_data.specs.Triangles.{corners, has_corner, star, neighbours}
-use Rattle.oemm_plane.proofs.Sums.{sums_value-sums_of, sums_of-append}
 use Rattle.triangle_edits.proofs.Turns.{any_turns, ends_of}
 use Rattle.edit_laws.proofs.Locality.{all_agree}
 use Rattle.edit_laws.proofs.Stars.{apex_alike, closed_alike, near_alike, neighbours_alike, shared_alike, three_alike}
 use Rattle.edit_laws.proofs.Tables.{SameTables, same_table}
 use Rattle.mesh_sheets.proofs.Filters.{all_weaker}
-use Rattle.sheet_frame.proofs.Free.{EachCorner, free_corners, third_passes}
+use Rattle.edit_steps.proofs.Corners.{EachCorner, free_corners, third_passes}
 use Rattle.triangle_lists.proofs.Filters.{filter-weaker, find-filter}
 
 -- ---- what the triangles at a name tell
@@ -35,22 +34,20 @@ star_each P u (t ∷ ts) all =
 
 -- ---- what an area sees
 
--- an area sees the same of two meshes: which names are held, where they are, the sums of their planes, and the triangles that
--- have one
+-- an area sees the same of two meshes: which names are held, where they are, and the triangles that have one
 pub record SameSight (inside : Point → Bool) (m n : Mesh) : Type 0 where
   pub held : (v : ℕ) → is_held inside m v ≡ is_held inside n v
   pub tris : filter (touches inside m) m.tris ≡ filter (touches inside n) n.tris
   pub points : (v : ℕ) → is_held inside m v ≡ true → point_or_origin m v ≡ point_or_origin n v
-  pub sums : (v : ℕ) → is_held inside m v ≡ true → sums_of (planes_or_none m v) ≡ sums_of (planes_or_none n v)
 
 -- the lines of a collapse, and of a flip, behind those of its pair
-abbrev collapse_rest : Mesh → ℕ → ℕ → ℤ → List (Bool × Reply)
-collapse_rest m u v most =
+abbrev collapse_rest : ℤ → Mesh → ℕ → ℕ → ℤ → List (Bool × Reply)
+collapse_rest price m u v most =
     (not (has_closed_ring m.tris u), Reply.Border)
     ∷ if_any Reply.Link (link_violation m.tris u v)
     ∷ (is_closed_by_three m.tris u && is_closed_by_three m.tris v, Reply.Closed)
     ∷ if_any Reply.Folds (find (folds_with m u v) m.tris)
-    ∷ (not (int_le (cost m u v) most), Reply.Dear (cost m u v))
+    ∷ (not (int_le price most), Reply.Dear price)
     ∷ []
 
 abbrev flip_rest : Mesh → ℕ → ℕ → List (Bool × Reply)
@@ -113,12 +110,6 @@ module _ (inside : Point → Bool) (m n : Mesh) (same : SameSight inside m n) wh
       ∙ ap (find (folds_with n u v)) (star_same u hu)
       ∙ find-filter (folds_with n u v) (has_corner u) (one n) n.tris
 
-  cost_same : (u v : ℕ) → held u ≡ true → held v ≡ true → cost m u v ≡ cost n u v
-  cost_same u v hu hv =
-      let by_sums : (k : Mesh) → cost k u v ≡ sums_value (added (sums_of (planes_or_none k u)) (sums_of (planes_or_none k v))) (point_or_origin k v) = λ k.
-      sym (sums_value-sums_of (planes_or_none k u ++ planes_or_none k v) (point_or_origin k v)) ∙ ap (λ (s : Sums). sums_value s (point_or_origin k v)) (sums_of-append (planes_or_none k u) (planes_or_none k v)) in
-      by_sums m ∙ (λ i. sums_value (added (same.sums u hu i) (same.sums v hv i)) (same.points v hv i)) ∙ sym (by_sums n)
-
   -- ---- verdicts
 
   pair_same : (u v : ℕ) (xs ys : List (Bool × Reply)) (r s : Reply) → (held u ≡ true → held v ≡ true → is_free inside m u ≡ true → is_free inside m v ≡ true → SameTables xs ys r s)
@@ -154,14 +145,15 @@ module _ (inside : Point → Bool) (m n : Mesh) (same : SameSight inside m n) wh
       same_table (table m) (table n) Reply.Done Reply.Done
       (ap not (same.held v), refl, λ a. (ap not (free_same v (not-false (held v) a)), refl, λ _. (refl, refl, λ _. refl)))
 
-  pub collapse_same : (u v : ℕ) (most : ℤ) → collapse_verdict inside m u v most ≡ collapse_verdict inside n u v most
+  -- where the prices of held names are the same
+  pub collapse_same : (c d : ℤ) (u v : ℕ) (most : ℤ) → (held u ≡ true → held v ≡ true → c ≡ d) → collapse_verdict_by c inside m u v most ≡ collapse_verdict_by d inside n u v most
   unfolding SameTables
-  collapse_same u v most =
-      same_table (pair_lines inside m u v ++ collapse_rest m u v most) (pair_lines inside n u v ++ collapse_rest n u v most) (Reply.DoneAt (cost m u v)) (Reply.DoneAt (cost n u v))
-      (pair_same u v (collapse_rest m u v most) (collapse_rest n u v most) (Reply.DoneAt (cost m u v)) (Reply.DoneAt (cost n u v)) (λ hu hv fu fv.
+  collapse_same c d u v most prices =
+      same_table (pair_lines inside m u v ++ collapse_rest c m u v most) (pair_lines inside n u v ++ collapse_rest d n u v most) (Reply.DoneAt c) (Reply.DoneAt d)
+      (pair_same u v (collapse_rest c m u v most) (collapse_rest d n u v most) (Reply.DoneAt c) (Reply.DoneAt d) (λ hu hv fu fv.
       let link = shared_alike m.tris n.tris u v (star_same u hu) (star_same v hv) in
       let fold = folds_same u v fu hv in
-      let price = cost_same u v hu hv in (
+      let price = prices hu hv in (
         ap not (closed_alike u m.tris n.tris (star_same u hu)),
         refl,
         λ _. (

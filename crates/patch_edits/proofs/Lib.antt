@@ -1,0 +1,11 @@
+pub mod Fragments
+pub mod Kernels
+pub mod Sight
+pub mod Told
+pub mod LeastSteps
+pub mod Afters
+pub mod Formed
+pub mod FlipFormed
+pub mod EditsFormed
+pub mod Rows
+pub mod Frees

@@ -1,0 +1,4 @@
+pub mod PatchMesh
+pub mod Edits
+pub mod Work
+pub mod LeastSteps
