@@ -12,3 +12,6 @@ mod near;
 
 pub use assembly::assemble;
 pub use clash::{AssemblyFault, Clash};
+
+#[cfg(test)]
+mod tests;
