@@ -8,3 +8,6 @@ mod runs;
 mod vertices;
 
 pub use cutting::MeshCut;
+
+#[cfg(test)]
+mod tests;
