@@ -4,3 +4,6 @@
 mod table;
 
 pub use table::{Busy, Table};
+
+#[cfg(test)]
+mod tests;
