@@ -14,10 +14,7 @@ pub offer-requires-clause-pair : goal.offer-requires-clause-pair
 offer-requires-clause-pair g c =
     let inside = g.M.Simplifiable.inside c.args.mesh.now in
     let w = g.M.Simplifiable.seen c.args.mesh.now in
-    let most = to_z w128 (of_z w128 c.args.max) in
-    let all = c.args.names.now in
     let near = c.deref-other-items.result.now in
-    let i = c.loop-name.name-index in
     let x = c.name-item.result in
     let same = sym c.deref-other-items.ensures.value in
     let around : AreHeldAround inside w.mesh x near =

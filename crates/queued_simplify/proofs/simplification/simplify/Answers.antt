@@ -43,12 +43,8 @@ pub turn-requires-clause-fit : goal.turn-requires-clause-fit
 turn-requires-clause-fit g c =
     let J = g.M.Simplifiable.inside c.loop-alloc.mesh in
     let w = g.M.Simplifiable.seen c.loop-alloc.mesh in
-    let top = to_z w128 (of_z w128 c.args.max) in
     let s = c.in-Some.step in
-    let next : IsNext J top w c.next_step.new.queue c.next_step.new.refused (Some s) =
-    subst (IsNext J top w c.next_step.new.queue c.next_step.new.refused) c.in-Some.is c.in_ok-step.ensures.next in
     let I = g.M.Simplifiable.inside c.args.mesh.now in
-    let F = g.M.Simplifiable.seen c.args.mesh.now in
     let still : J ≡ I = c.loop-alloc.invariant.area in
     let before = length c.loop-alloc.steps.items in
     let stamp : c.len-stamp.result ≡ before + 1 =
@@ -146,20 +142,12 @@ returns-clause-steps g c =
 
 pub returns-clause-mesh : goal.returns-clause-mesh
 returns-clause-mesh g c =
-    let J = g.M.Simplifiable.inside c.loop-alloc.mesh in
-    let w = g.M.Simplifiable.seen c.loop-alloc.mesh in
-    let top = to_z w128 (of_z w128 c.args.max) in
-    let I = g.M.Simplifiable.inside c.args.mesh.now in
     let F = g.M.Simplifiable.seen c.args.mesh.now in
-    let still : J ≡ I = c.loop-alloc.invariant.area in
     c.loop-alloc.invariant.made ∙ ap (contracted_by F) (sym c.from_vec.ensures)
 
 pub returns-clause-area : goal.returns-clause-area
 returns-clause-area g c =
     let J = g.M.Simplifiable.inside c.loop-alloc.mesh in
-    let w = g.M.Simplifiable.seen c.loop-alloc.mesh in
-    let top = to_z w128 (of_z w128 c.args.max) in
     let I = g.M.Simplifiable.inside c.args.mesh.now in
-    let F = g.M.Simplifiable.seen c.args.mesh.now in
     let still : J ≡ I = c.loop-alloc.invariant.area in
     still

@@ -25,9 +25,6 @@ held_around-requires g c =
     let u = c.args.step.now.u in
     let v = c.args.step.now.v in
     let k = c.args.step.now.cost in
-    let s = c.args.stamp in
-    let q = c.args.queue.now in
-    let old = c.args.refused.now in
     let done : collapse_reply I w u v top ≡ DoneAt k =
     subst (λ (z : ℤ). collapse_reply I w u v z ≡ DoneAt k) (sym same) c.requires.done in
     (pair_of_done I w u v top k done).held
@@ -41,9 +38,6 @@ collapse-requires g c =
     let u = c.args.step.now.u in
     let v = c.args.step.now.v in
     let k = c.args.step.now.cost in
-    let s = c.args.stamp in
-    let q = c.args.queue.now in
-    let old = c.args.refused.now in
     let done : collapse_reply I w u v top ≡ DoneAt k =
     subst (λ (z : ℤ). collapse_reply I w u v z ≡ DoneAt k) (sym same) c.requires.done in
     can_collapse I w u v top k done
@@ -52,16 +46,8 @@ pub names_around-requires : goal.names_around-requires
 names_around-requires g c =
     let I = g.M.Simplifiable.inside c.args.mesh.now in
     let w = g.M.Simplifiable.seen c.args.mesh.now in
-    let top = to_z w128 (of_z w128 c.args.max) in
-    let same : top ≡ c.args.max = to_z-of_z w128 c.args.max (search rules) in
     let u = c.args.step.now.u in
     let v = c.args.step.now.v in
-    let k = c.args.step.now.cost in
-    let s = c.args.stamp in
-    let q = c.args.queue.now in
-    let old = c.args.refused.now in
-    let done : collapse_reply I w u v top ≡ DoneAt k =
-    subst (λ (z : ℤ). collapse_reply I w u v z ≡ DoneAt k) (sym same) c.requires.done in
     let J = g.M.Simplifiable.inside c.collapse.new.self in
     let n = g.M.Simplifiable.seen c.collapse.new.self in
     let N = contracted w u v in
@@ -81,57 +67,18 @@ restamp-requires-clause-named g c =
     let u = c.args.step.now.u in
     let v = c.args.step.now.v in
     let k = c.args.step.now.cost in
-    let s = c.args.stamp in
-    let q = c.args.queue.now in
-    let old = c.args.refused.now in
     let done : collapse_reply I w u v top ≡ DoneAt k =
     subst (λ (z : ℤ). collapse_reply I w u v z ≡ DoneAt k) (sym same) c.requires.done in
     c.requires.fit.keys u (pair_of_done I w u v top k done).held
 
 pub restamp-requires-clause-later : goal.restamp-requires-clause-later
 restamp-requires-clause-later g c =
-    let I = g.M.Simplifiable.inside c.args.mesh.now in
-    let w = g.M.Simplifiable.seen c.args.mesh.now in
-    let top = to_z w128 (of_z w128 c.args.max) in
-    let same : top ≡ c.args.max = to_z-of_z w128 c.args.max (search rules) in
     let u = c.args.step.now.u in
-    let v = c.args.step.now.v in
-    let k = c.args.step.now.cost in
-    let s = c.args.stamp in
-    let q = c.args.queue.now in
-    let old = c.args.refused.now in
-    let done : collapse_reply I w u v top ≡ DoneAt k =
-    subst (λ (z : ℤ). collapse_reply I w u v z ≡ DoneAt k) (sym same) c.requires.done in
     c.requires.fit.stamps u
 
 pub restamp_all-requires-clause-once : goal.restamp_all-requires-clause-once
 restamp_all-requires-clause-once g c =
-    let I = g.M.Simplifiable.inside c.args.mesh.now in
-    let w = g.M.Simplifiable.seen c.args.mesh.now in
-    let top = to_z w128 (of_z w128 c.args.max) in
-    let same : top ≡ c.args.max = to_z-of_z w128 c.args.max (search rules) in
-    let u = c.args.step.now.u in
-    let v = c.args.step.now.v in
-    let k = c.args.step.now.cost in
-    let s = c.args.stamp in
-    let q = c.args.queue.now in
-    let old = c.args.refused.now in
-    let done : collapse_reply I w u v top ≡ DoneAt k =
-    subst (λ (z : ℤ). collapse_reply I w u v z ≡ DoneAt k) (sym same) c.requires.done in
-    let J = g.M.Simplifiable.inside c.collapse.new.self in
-    let n = g.M.Simplifiable.seen c.collapse.new.self in
-    let N = contracted w u v in
-    let area : J ≡ I = c.in_ok-collapse.ensures.area in
-    let is : n ≡ N = c.in_ok-collapse.ensures.mesh in
-    let ring = c.held_around.new.names.items in
-    let around = c.in_ok-held_around.ensures.around in
     let names = c.names_around.new.names.items in
-    let near : IsAround I N.mesh v ring old names =
-    at_made I J N n area is (λ K m. IsAround K m.mesh v ring old names)
-    (subst (λ ns. IsAround J n.mesh v ns old names) c.deref.ensures.value c.in_ok-names_around.ensures.around) in
-    let ready : IsReadyBut (λ x. x ≡ u) I top w q old =
-    subst (λ (z : ℤ). IsReadyBut (λ x. x ≡ u) I z w q old) (sym same) c.requires.ready in
-    let enough = enough_of I top w q old u v k ring names done around near ready in
     let slice = c.deref-2.result.now in
     let listed : slice ≡ names = c.deref-2.ensures.value in
     subst IsStrictlyIncreasing (sym listed) c.in_ok-names_around.ensures.once
@@ -140,30 +87,21 @@ pub restamp_all-requires-clause-keys : goal.restamp_all-requires-clause-keys
 restamp_all-requires-clause-keys g c =
     let I = g.M.Simplifiable.inside c.args.mesh.now in
     let w = g.M.Simplifiable.seen c.args.mesh.now in
-    let top = to_z w128 (of_z w128 c.args.max) in
-    let same : top ≡ c.args.max = to_z-of_z w128 c.args.max (search rules) in
     let u = c.args.step.now.u in
     let v = c.args.step.now.v in
-    let k = c.args.step.now.cost in
     let s = c.args.stamp in
     let q = c.args.queue.now in
     let old = c.args.refused.now in
-    let done : collapse_reply I w u v top ≡ DoneAt k =
-    subst (λ (z : ℤ). collapse_reply I w u v z ≡ DoneAt k) (sym same) c.requires.done in
     let J = g.M.Simplifiable.inside c.collapse.new.self in
     let n = g.M.Simplifiable.seen c.collapse.new.self in
     let N = contracted w u v in
     let area : J ≡ I = c.in_ok-collapse.ensures.area in
     let is : n ≡ N = c.in_ok-collapse.ensures.mesh in
     let ring = c.held_around.new.names.items in
-    let around = c.in_ok-held_around.ensures.around in
     let names = c.names_around.new.names.items in
     let near : IsAround I N.mesh v ring old names =
     at_made I J N n area is (λ K m. IsAround K m.mesh v ring old names)
     (subst (λ ns. IsAround J n.mesh v ns old names) c.deref.ensures.value c.in_ok-names_around.ensures.around) in
-    let ready : IsReadyBut (λ x. x ≡ u) I top w q old =
-    subst (λ (z : ℤ). IsReadyBut (λ x. x ≡ u) I z w q old) (sym same) c.requires.ready in
-    let enough = enough_of I top w q old u v k ring names done around near ready in
     let slice = c.deref-2.result.now in
     let listed : slice ≡ names = c.deref-2.ensures.value in
     λ x on. subst (λ (p : Queued). finite.contains_key p.stamps x ≡ true) (sym c.restamp.ensures)
@@ -173,30 +111,21 @@ pub restamp_all-requires-clause-later : goal.restamp_all-requires-clause-later
 restamp_all-requires-clause-later g c =
     let I = g.M.Simplifiable.inside c.args.mesh.now in
     let w = g.M.Simplifiable.seen c.args.mesh.now in
-    let top = to_z w128 (of_z w128 c.args.max) in
-    let same : top ≡ c.args.max = to_z-of_z w128 c.args.max (search rules) in
     let u = c.args.step.now.u in
     let v = c.args.step.now.v in
-    let k = c.args.step.now.cost in
     let s = c.args.stamp in
     let q = c.args.queue.now in
     let old = c.args.refused.now in
-    let done : collapse_reply I w u v top ≡ DoneAt k =
-    subst (λ (z : ℤ). collapse_reply I w u v z ≡ DoneAt k) (sym same) c.requires.done in
     let J = g.M.Simplifiable.inside c.collapse.new.self in
     let n = g.M.Simplifiable.seen c.collapse.new.self in
     let N = contracted w u v in
     let area : J ≡ I = c.in_ok-collapse.ensures.area in
     let is : n ≡ N = c.in_ok-collapse.ensures.mesh in
     let ring = c.held_around.new.names.items in
-    let around = c.in_ok-held_around.ensures.around in
     let names = c.names_around.new.names.items in
     let near : IsAround I N.mesh v ring old names =
     at_made I J N n area is (λ K m. IsAround K m.mesh v ring old names)
     (subst (λ ns. IsAround J n.mesh v ns old names) c.deref.ensures.value c.in_ok-names_around.ensures.around) in
-    let ready : IsReadyBut (λ x. x ≡ u) I top w q old =
-    subst (λ (z : ℤ). IsReadyBut (λ x. x ≡ u) I z w q old) (sym same) c.requires.ready in
-    let enough = enough_of I top w q old u v k ring names done around near ready in
     let slice = c.deref-2.result.now in
     let listed : slice ≡ names = c.deref-2.ensures.value in
     λ x on. subst (λ (p : Queued). stamp_in p.stamps x < s) (sym c.restamp.ensures)
@@ -206,122 +135,52 @@ pub clear_all-requires : goal.clear_all-requires
 clear_all-requires g c =
     let I = g.M.Simplifiable.inside c.args.mesh.now in
     let w = g.M.Simplifiable.seen c.args.mesh.now in
-    let top = to_z w128 (of_z w128 c.args.max) in
-    let same : top ≡ c.args.max = to_z-of_z w128 c.args.max (search rules) in
     let u = c.args.step.now.u in
     let v = c.args.step.now.v in
-    let k = c.args.step.now.cost in
-    let s = c.args.stamp in
-    let q = c.args.queue.now in
     let old = c.args.refused.now in
-    let done : collapse_reply I w u v top ≡ DoneAt k =
-    subst (λ (z : ℤ). collapse_reply I w u v z ≡ DoneAt k) (sym same) c.requires.done in
     let J = g.M.Simplifiable.inside c.collapse.new.self in
     let n = g.M.Simplifiable.seen c.collapse.new.self in
     let N = contracted w u v in
     let area : J ≡ I = c.in_ok-collapse.ensures.area in
     let is : n ≡ N = c.in_ok-collapse.ensures.mesh in
     let ring = c.held_around.new.names.items in
-    let around = c.in_ok-held_around.ensures.around in
     let names = c.names_around.new.names.items in
     let near : IsAround I N.mesh v ring old names =
     at_made I J N n area is (λ K m. IsAround K m.mesh v ring old names)
     (subst (λ ns. IsAround J n.mesh v ns old names) c.deref.ensures.value c.in_ok-names_around.ensures.around) in
-    let ready : IsReadyBut (λ x. x ≡ u) I top w q old =
-    subst (λ (z : ℤ). IsReadyBut (λ x. x ≡ u) I z w q old) (sym same) c.requires.ready in
-    let enough = enough_of I top w q old u v k ring names done around near ready in
     λ x on. c.requires.ready.keys x
     (held_before I w.mesh u v x (near.held x (subst (λ ns. among x ns ≡ true) c.deref-3.ensures.value on)))
 
 pub fill-requires-clause-once : goal.fill-requires-clause-once
 fill-requires-clause-once g c =
-    let I = g.M.Simplifiable.inside c.args.mesh.now in
-    let w = g.M.Simplifiable.seen c.args.mesh.now in
-    let top = to_z w128 (of_z w128 c.args.max) in
-    let same : top ≡ c.args.max = to_z-of_z w128 c.args.max (search rules) in
-    let u = c.args.step.now.u in
-    let v = c.args.step.now.v in
-    let k = c.args.step.now.cost in
-    let s = c.args.stamp in
-    let q = c.args.queue.now in
-    let old = c.args.refused.now in
-    let done : collapse_reply I w u v top ≡ DoneAt k =
-    subst (λ (z : ℤ). collapse_reply I w u v z ≡ DoneAt k) (sym same) c.requires.done in
-    let J = g.M.Simplifiable.inside c.collapse.new.self in
-    let n = g.M.Simplifiable.seen c.collapse.new.self in
-    let N = contracted w u v in
-    let area : J ≡ I = c.in_ok-collapse.ensures.area in
-    let is : n ≡ N = c.in_ok-collapse.ensures.mesh in
-    let ring = c.held_around.new.names.items in
-    let around = c.in_ok-held_around.ensures.around in
-    let names = c.names_around.new.names.items in
-    let near : IsAround I N.mesh v ring old names =
-    at_made I J N n area is (λ K m. IsAround K m.mesh v ring old names)
-    (subst (λ ns. IsAround J n.mesh v ns old names) c.deref.ensures.value c.in_ok-names_around.ensures.around) in
-    let ready : IsReadyBut (λ x. x ≡ u) I top w q old =
-    subst (λ (z : ℤ). IsReadyBut (λ x. x ≡ u) I z w q old) (sym same) c.requires.ready in
-    let enough = enough_of I top w q old u v k ring names done around near ready in
     subst IsStrictlyIncreasing (sym c.deref-4.ensures.value) c.in_ok-names_around.ensures.once
 
 pub fill-requires-clause-held : goal.fill-requires-clause-held
 fill-requires-clause-held g c =
     let I = g.M.Simplifiable.inside c.args.mesh.now in
     let w = g.M.Simplifiable.seen c.args.mesh.now in
-    let top = to_z w128 (of_z w128 c.args.max) in
-    let same : top ≡ c.args.max = to_z-of_z w128 c.args.max (search rules) in
     let u = c.args.step.now.u in
     let v = c.args.step.now.v in
-    let k = c.args.step.now.cost in
-    let s = c.args.stamp in
-    let q = c.args.queue.now in
     let old = c.args.refused.now in
-    let done : collapse_reply I w u v top ≡ DoneAt k =
-    subst (λ (z : ℤ). collapse_reply I w u v z ≡ DoneAt k) (sym same) c.requires.done in
     let J = g.M.Simplifiable.inside c.collapse.new.self in
     let n = g.M.Simplifiable.seen c.collapse.new.self in
     let N = contracted w u v in
     let area : J ≡ I = c.in_ok-collapse.ensures.area in
     let is : n ≡ N = c.in_ok-collapse.ensures.mesh in
     let ring = c.held_around.new.names.items in
-    let around = c.in_ok-held_around.ensures.around in
     let names = c.names_around.new.names.items in
     let near : IsAround I N.mesh v ring old names =
     at_made I J N n area is (λ K m. IsAround K m.mesh v ring old names)
     (subst (λ ns. IsAround J n.mesh v ns old names) c.deref.ensures.value c.in_ok-names_around.ensures.around) in
-    let ready : IsReadyBut (λ x. x ≡ u) I top w q old =
-    subst (λ (z : ℤ). IsReadyBut (λ x. x ≡ u) I z w q old) (sym same) c.requires.ready in
-    let enough = enough_of I top w q old u v k ring names done around near ready in
     λ x on. to_made I J N n area is (λ K m. is_held K m.mesh x ≡ true)
     (near.held x (subst (λ ns. among x ns ≡ true) c.deref-4.ensures.value on))
 
 pub fill-requires-clause-stamped : goal.fill-requires-clause-stamped
 fill-requires-clause-stamped g c =
-    let I = g.M.Simplifiable.inside c.args.mesh.now in
-    let w = g.M.Simplifiable.seen c.args.mesh.now in
-    let top = to_z w128 (of_z w128 c.args.max) in
-    let same : top ≡ c.args.max = to_z-of_z w128 c.args.max (search rules) in
     let u = c.args.step.now.u in
-    let v = c.args.step.now.v in
-    let k = c.args.step.now.cost in
     let s = c.args.stamp in
     let q = c.args.queue.now in
-    let old = c.args.refused.now in
-    let done : collapse_reply I w u v top ≡ DoneAt k =
-    subst (λ (z : ℤ). collapse_reply I w u v z ≡ DoneAt k) (sym same) c.requires.done in
-    let J = g.M.Simplifiable.inside c.collapse.new.self in
-    let n = g.M.Simplifiable.seen c.collapse.new.self in
-    let N = contracted w u v in
-    let area : J ≡ I = c.in_ok-collapse.ensures.area in
-    let is : n ≡ N = c.in_ok-collapse.ensures.mesh in
-    let ring = c.held_around.new.names.items in
-    let around = c.in_ok-held_around.ensures.around in
     let names = c.names_around.new.names.items in
-    let near : IsAround I N.mesh v ring old names =
-    at_made I J N n area is (λ K m. IsAround K m.mesh v ring old names)
-    (subst (λ ns. IsAround J n.mesh v ns old names) c.deref.ensures.value c.in_ok-names_around.ensures.around) in
-    let ready : IsReadyBut (λ x. x ≡ u) I top w q old =
-    subst (λ (z : ℤ). IsReadyBut (λ x. x ≡ u) I z w q old) (sym same) c.requires.ready in
-    let enough = enough_of I top w q old u v k ring names done around near ready in
     let slice = c.deref-2.result.now in
     let listed : slice ≡ names = c.deref-2.ensures.value in
     let first : c.restamp.new.self ≡ restamped u s q = c.restamp.ensures in
@@ -329,7 +188,6 @@ fill-requires-clause-stamped g c =
     let each : IsRestamped names s (restamped u s q) r =
     subst (λ (p : Queued). IsRestamped names s p r) first
     (subst (λ ns. IsRestamped ns s c.restamp.new.self r) listed c.restamp_all.ensures) in
-    let both = restamped_first u s names q r each in
     subst (λ ns. AreStamped ns s r) (sym c.deref-4.ensures.value)
     (are_stamped names s (restamped u s q) r each c.requires.fit.items)
 
@@ -426,29 +284,16 @@ returns-clause-fit g c =
     let I = g.M.Simplifiable.inside c.args.mesh.now in
     let w = g.M.Simplifiable.seen c.args.mesh.now in
     let top = to_z w128 (of_z w128 c.args.max) in
-    let same : top ≡ c.args.max = to_z-of_z w128 c.args.max (search rules) in
     let u = c.args.step.now.u in
     let v = c.args.step.now.v in
-    let k = c.args.step.now.cost in
     let s = c.args.stamp in
     let q = c.args.queue.now in
-    let old = c.args.refused.now in
-    let done : collapse_reply I w u v top ≡ DoneAt k =
-    subst (λ (z : ℤ). collapse_reply I w u v z ≡ DoneAt k) (sym same) c.requires.done in
     let J = g.M.Simplifiable.inside c.collapse.new.self in
     let n = g.M.Simplifiable.seen c.collapse.new.self in
     let N = contracted w u v in
     let area : J ≡ I = c.in_ok-collapse.ensures.area in
     let is : n ≡ N = c.in_ok-collapse.ensures.mesh in
-    let ring = c.held_around.new.names.items in
-    let around = c.in_ok-held_around.ensures.around in
     let names = c.names_around.new.names.items in
-    let near : IsAround I N.mesh v ring old names =
-    at_made I J N n area is (λ K m. IsAround K m.mesh v ring old names)
-    (subst (λ ns. IsAround J n.mesh v ns old names) c.deref.ensures.value c.in_ok-names_around.ensures.around) in
-    let ready : IsReadyBut (λ x. x ≡ u) I top w q old =
-    subst (λ (z : ℤ). IsReadyBut (λ x. x ≡ u) I z w q old) (sym same) c.requires.ready in
-    let enough = enough_of I top w q old u v k ring names done around near ready in
     let slice = c.deref-2.result.now in
     let listed : slice ≡ names = c.deref-2.ensures.value in
     let first : c.restamp.new.self ≡ restamped u s q = c.restamp.ensures in
