@@ -5,7 +5,7 @@ mod near;
 mod sets;
 
 pub use near::near_of;
-pub use sets::join_near;
+pub use sets::{join_near, set_of};
 
 #[cfg(test)]
 mod tests;
