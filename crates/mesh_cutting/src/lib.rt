@@ -8,6 +8,8 @@ mod runs;
 mod vertices;
 
 pub use cutting::MeshCut;
+pub use near::tris_of;
+pub use runs::of_leaf;
 
 #[cfg(test)]
 mod tests;
