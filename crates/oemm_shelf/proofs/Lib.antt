@@ -1,0 +1,9 @@
+pub mod Told
+pub mod Sequence
+pub mod Formed
+pub mod Several
+pub mod Indexes
+pub mod Lying
+pub mod Entering
+pub mod Gathered
+pub mod Sound
