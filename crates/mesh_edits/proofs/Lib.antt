@@ -1,0 +1,9 @@
+pub mod Entries
+pub mod Settled
+pub mod Rims
+pub mod Clashes
+pub mod Sums
+pub mod FirstRound
+pub mod On
+pub mod Near
+pub mod Parts

@@ -1,0 +1,4 @@
+pub mod Keyed
+pub mod Fragments
+pub mod Rounds
+pub mod Faults

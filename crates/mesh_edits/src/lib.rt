@@ -1,0 +1,12 @@
+//! Edits on a patch in memory, which answer what they would on the whole mesh.
+#![tactic(auto)]
+
+mod fault;
+mod fragment;
+mod made;
+mod questions;
+mod rounds;
+mod vertices;
+
+pub use fault::FragmentFault;
+pub use fragment::Fragment;
