@@ -10,6 +10,7 @@ ghost use Rattle.half_edge.specs.Meshes.{is_held};
 use super::*;
 use link_test::{Link, verdict};
 use mesh_data::{Name, NameSet, Shape, Tri};
+use oemm_lists::Copied;
 use std::alloc::{AllocError, Global};
 use std::collections::BTreeSet;
 use std::test::Fail;
@@ -145,7 +146,11 @@ fn the_octahedron(rt: HostRuntime) -> Result<(), Fail> {
     );
     assert_eq!(rt; mesh.apexes(Name(0), Name(1)), (None, None));
     assert_eq!(rt; mesh.apexes(Name(6), Name(0)), (None, None));
+    let whole = mesh.faces(rt.alloc())?;
+    let before = mesh.copy(rt.alloc())?;
     assert!(rt; collapse_if(&mut mesh, rt.alloc(), Name(4), Name(0))?);
+    assert!(rt; before.has(Name(4)));
+    assert_eq!(rt; before.faces(rt.alloc())?.slice(), whole.slice());
     let want = [
         [0, 1, 3],
         [0, 2, 1],
