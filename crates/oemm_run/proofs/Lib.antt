@@ -1,4 +1,3 @@
-pub mod Readings
 pub mod Pieces
 pub mod Sources
 pub mod Takings

@@ -5,20 +5,9 @@ use Rattle.fault_counts.specs.Told.{Told, Takes, TakesSome}
 use Rattle.fault_counts.proofs.InRow.{takes_none, takes_some_more}
 use Rattle.oemm_run.specs.Outside.{HasTaken}
 
--- nothing was taken
-pub taken_none : (left : Told) → HasTaken left left
-taken_none left = record { some = ([], takes_none left) }
-
 -- these bytes were taken, and nothing after them
 pub taken_bytes : (old mid new : Told) (bytes : List ℕ) → Takes old mid bytes → new ≡ mid → HasTaken old new
 taken_bytes old mid new bytes h same = record { some = (bytes, subst (λ (left : Told). Takes old left bytes) (sym same) h) }
-
--- and then some more
-pub taken_more : (old mid new : Told) → HasTaken old mid → TakesSome mid new → HasTaken old new
-taken_more old mid new h more = record { some = takes_some_more old mid new h.some more }
-
-pub taken_both : (old mid new : Told) → HasTaken old mid → HasTaken mid new → HasTaken old new
-taken_both old mid new h i = record { some = takes_some_more old mid new h.some i.some }
 
 -- some were taken behind a front that was taken before and given again
 pub taken_behind :

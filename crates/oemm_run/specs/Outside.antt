@@ -1,7 +1,8 @@
 -- What contracts see of the objects that a command reads and writes.
 use Rattle.std.specs.Prelude.{◌≡◌, ℕ, ◌≤◌, Bool, true, List}
 use Rattle.fault_counts.specs.Counts.{Rose, IsCalm}
-use Rattle.fault_counts.specs.Told.{Told, TakesSome, Puts, PutsPrefix}
+use Rattle.fault_counts.specs.Told.{Told, Puts, PutsPrefix}
+pub use Rattle.mesh_soup.specs.Taken.{HasTaken}
 use Rattle.oemm_io.specs.Whole.{StaysOpen}
 
 -- a source: the bytes that it has left, if it tells them, and how often it has failed
@@ -26,10 +27,6 @@ pub record Outside : Type 0 where
   pub script : Input
   pub out : Output
   pub report : Output
-
--- bytes were taken from the front of what was left, or none
-pub record HasTaken (old new : Told) : Type 0 where
-  pub some : TakesSome old new
 
 -- an object has failed: its count of faults has risen, and has not fallen
 pub record HasFailed (before now : ℕ) : Type 0 where

@@ -8,7 +8,7 @@ ghost use Rattle.oemm_run.specs.Phases.Mesh.{end_of_mesh, ReadsMesh};
 ghost use Rattle.oemm_run.specs.Soup.{soup_of, limited, reading_in, GivesSoup, IsSoup};
 
 use super::prefix::take_prefix;
-use super::soup::read_soup;
+use super::soup::soup_within;
 use crate::end::End;
 use mesh_data::Soup;
 use mesh_items::MeshFault;
@@ -62,7 +62,7 @@ fn take_mesh<M: Source>(alloc: Global, mut source: M) -> (M, Result<Soup, MeshFa
 }
 
 /// The points and faces of a mesh in binary PLY, or in OFF.
-#[tactic(auto, using(crate::proofs::Takings::taken_none))]
+#[tactic(auto, using(mesh_soup::proofs::Takings::taken_none))]
 fn read_soup_in<S: Source>(alloc: Global, source: S, is_ply: bool) -> (S, Result<Soup, MeshFault>)
     ensures told { IfSome (S.left source) (λ bytes. GivesSoup result.1 (soup (limited (reading_in is_ply bytes)))) }
     ensures ranges { IfOk result.1 IsSoup }
@@ -75,11 +75,11 @@ fn read_soup_in<S: Source>(alloc: Global, source: S, is_ply: bool) -> (S, Result
     };
     if is_ply {
         let mut reader = PlyReader::new(lines);
-        let soup = read_soup(alloc, &mut reader);
+        let soup = soup_within(alloc, &mut reader);
         (reader.into_source(), soup)
     } else {
         let mut reader = OffReader::new(lines);
-        let soup = read_soup(alloc, &mut reader);
+        let soup = soup_within(alloc, &mut reader);
         (reader.into_source(), soup)
     }
 }

@@ -1,8 +1,8 @@
 use Rattle.std.proofs.Common.{arith}
 use Rattle.std.proofs.lemmas.Grind.{common_steps}
-use Rattle.oemm_run.proofs.Readings.{points_next}
-use Rattle.oemm_run.proofs.Takings.{taken_more}
-use Rattle.oemm_run.proofs.phases.soup.next_points.Goals as goal
+use Rattle.mesh_soup.proofs.Readings.{points_next}
+use Rattle.mesh_soup.proofs.Takings.{taken_more}
+use Rattle.mesh_soup.proofs.soup.next_points.Goals as goal
 
 pub returns-in_err-point-clause-taken : goal.returns-in_err-point-clause-taken
 returns-in_err-point-clause-taken g c = taken_more _ _ _ c.loop-place.invariant.taken c.next.ensures.left

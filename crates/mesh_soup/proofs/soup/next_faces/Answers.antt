@@ -1,8 +1,8 @@
 use Rattle.std.proofs.Common.{arith}
 use Rattle.std.proofs.lemmas.Grind.{common_steps}
-use Rattle.oemm_run.proofs.Readings.{faces_next}
-use Rattle.oemm_run.proofs.Takings.{taken_more}
-use Rattle.oemm_run.proofs.phases.soup.next_faces.Goals as goal
+use Rattle.mesh_soup.proofs.Readings.{faces_next}
+use Rattle.mesh_soup.proofs.Takings.{taken_more}
+use Rattle.mesh_soup.proofs.soup.next_faces.Goals as goal
 
 pub returns-in_err-face-clause-taken : goal.returns-in_err-face-clause-taken
 returns-in_err-face-clause-taken g c = taken_more _ _ _ c.loop-place.invariant.taken c.next.ensures.left

@@ -1,9 +1,9 @@
-use Rattle.std.proofs.Common.{◌≡◌, ◌≤◌, map, vec_len}
+use Rattle.std.proofs.Common.{◌≡◌, map, vec_len}
 use Rattle.std.specs.Option.{option_map}
 use Rattle.mesh_items.specs.declared.items.Item.TheVariants.{Vertex}
-use Rattle.oemm_run.specs.Outside.{HasTaken}
-use Rattle.oemm_run.specs.Soup.{items_then, given_of}
-use Rattle.oemm_run.proofs.phases.soup.next_points.Given as goal
+use Rattle.mesh_soup.specs.Taken.{HasTaken}
+use Rattle.mesh_soup.specs.Soup.{items_then, given_of}
+use Rattle.mesh_soup.proofs.soup.next_points.Given as goal
 
 abbrev pub invariant-loop-place : goal.invariant-loop-place
 invariant-loop-place g l = record {

@@ -1,0 +1,2 @@
+pub mod Soup
+pub mod Taken
