@@ -7,6 +7,7 @@ ghost use Rattle.oemm_limits.specs.declared.TheConstants.{MOST_DEPTH};
 ghost use Rattle.oemm_octree.specs.Leaves.{AreTiles};
 ghost use Rattle.oemm_octree.specs.Octree.{cell_holds};
 ghost use Rattle.mesh_data.specs.Triangles.{corners};
+ghost use Rattle.leaf_codec.specs.Sheets.{KeepsSheetRules};
 ghost use Rattle.oemm_blobs.specs.Content.{blob_at};
 ghost use Rattle.oemm_blobs.specs.Store.{IfTold};
 ghost use Rattle.oemm_blobs.specs.declared.keys.Key.TheVariants as key;
@@ -93,6 +94,7 @@ fn sheet_from(
     ensures is { IfOk result (λ sheet. sheet ≡ sheet_in index.now leaf bytes.now) }
     ensures formed { IfOk result
         (λ sheet. IfSome sheet (IsSheetOf index.now.cells index.now.vertices leaf)) }
+    ensures rules { IfOk result (λ sheet. IfSome sheet KeepsSheetRules) }
 {
     match LeafSheet::decode(alloc, bytes) {
         Ok(sheet) => {
@@ -158,6 +160,7 @@ pub fn read_sheet<B: Blobs>(
     requires leaf { leaf < length index.now.cells }
     ensures told { IfTold (B.store blobs.old).content (λ m. Answers result (sheet_at index.now m leaf version)) }
     ensures shows { ShowsSheet index.now leaf (key.Leaf leaf version) result }
+    ensures rules { IfOk result KeepsSheetRules }
     ensures reads { Reads 1 (B.store blobs.old) (B.store blobs.new) }
     ensures once { (B.store blobs.new).gets ≡ next_count (B.store blobs.old).gets }
     ensures cause { TellsFailure ShelfFault.Store (B.store blobs.old).faults (B.store blobs.new).faults result }

@@ -129,6 +129,7 @@ impl<B: Blobs> Shelf<B> {
         ensures told { IfTold (B.store self.old.blobs).content
             (λ m. Answers result (current_sheet self.old.index self.old.versions m leaf)) }
         ensures shows { ShowsSheet self.old.index leaf (leaf_key self.old.versions leaf) result }
+        ensures rules { IfOk result KeepsSheetRules }
         ensures same { IsSame self.old self.new }
         ensures reads { Reads 1 (B.store self.old.blobs) (B.store self.new.blobs) }
         ensures once { OnOk result ((B.store self.new.blobs).gets
@@ -152,6 +153,7 @@ impl<B: Blobs> Shelf<B> {
         ensures told { IfTold (B.store self.old.blobs).content
             (λ m. Answers result (sheet_at self.old.index m leaf 0)) }
         ensures shows { ShowsSheet self.old.index leaf (key.Leaf leaf 0) result }
+        ensures rules { IfOk result KeepsSheetRules }
         ensures same { IsSame self.old self.new }
         ensures reads { Reads 1 (B.store self.old.blobs) (B.store self.new.blobs) }
         ensures once { OnOk result ((B.store self.new.blobs).gets
