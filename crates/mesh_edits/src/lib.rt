@@ -1,6 +1,7 @@
 //! Edits on a patch in memory, which answer what they would on the whole mesh.
 #![tactic(auto)]
 
+mod changes;
 mod fault;
 mod fragment;
 mod made;
