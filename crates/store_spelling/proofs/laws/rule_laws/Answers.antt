@@ -1,5 +1,6 @@
 use Rattle.store_spelling.proofs.IndexRules.{first_keeps, index_keeps}
 use Rattle.store_spelling.proofs.SheetRules.{formed_keeps, storable_keeps}
+use Rattle.store_spelling.proofs.WrittenRules.{written_keep}
 use Rattle.store_spelling.proofs.laws.rule_laws.Goals as goal
 
 pub returns-clause-formed : goal.returns-clause-formed
@@ -7,6 +8,9 @@ returns-clause-formed c = λ cells names leaf s few_names few_cells faces formed
 
 pub returns-clause-sheets : goal.returns-clause-sheets
 returns-clause-sheets c = storable_keeps
+
+pub returns-clause-written : goal.returns-clause-written
+returns-clause-written c = written_keep
 
 pub returns-clause-index : goal.returns-clause-index
 returns-clause-index c = index_keeps
