@@ -1,6 +1,4 @@
 pub mod Entries
-pub mod Altered
-pub mod Effects
 pub mod Settled
 pub mod Rims
 pub mod Clashes
@@ -9,4 +7,3 @@ pub mod FirstRound
 pub mod On
 pub mod Near
 pub mod Parts
-pub mod Done

@@ -7,7 +7,6 @@ use Rattle.oemm_octree.specs.Leaves.{AreBelow, AreTiles}
 use Rattle.oemm_octree.specs.Octree.{area_of}
 use Rattle.mesh_data.specs.declared.geometry.Tri.{Tri}
 use Rattle.mesh_data.specs.Manifold.{is_corner}
-use Rattle.mesh_data.specs.RingChanges.{IsOriented}
 use Rattle.mesh_data.specs.Triangles.{corners, has_corner}
 use Rattle.half_edge.specs.Meshes.{Faced, is_held}
 use Rattle.sheet_data.specs.declared.patches.Mixed.{Mixed}
@@ -45,12 +44,11 @@ patch_by vs ts mixed near = record {
 abbrev pub fragmented : List SummedVertex → Faced → List Mixed → List NearList → List Cell → Fragmented
 fragmented vs mesh mixed near area = record { patch = patch_by vs mesh.tris mixed near; area = area }
 
--- The patch is well formed, the triangles are those of its mesh, and oriented, those vertices that are in one are held
--- by the half-edges, and the rim has the names of the mixed ones.
+-- The patch is well formed, the triangles are those of its mesh, those vertices that are in one are held by the
+-- half-edges, and the rim has the names of the mixed ones.
 pub record IsFragment (vs : List SummedVertex) (mesh : Faced) (mixed : List Mixed) (rim : List ℕ)
     (near : List NearList) (area : List Cell) : Type 0 where
   pub formed : IsPatchOn area (patch_by vs mesh.tris mixed near)
   pub tris : mesh.tris ≡ (mesh_of (patch_by vs mesh.tris mixed near)).tris
-  pub oriented : IsOriented mesh.tris
   pub held : (v : ℕ) → has_name vs v ≡ true → is_corner mesh.tris v ≡ true → is_held mesh v ≡ true
   pub rim_has : (v : ℕ) → among v rim ≡ list_any (λ x. has_corner v x.tri) mixed

@@ -1,7 +1,6 @@
 //! Edits on a patch in memory, which answer what they would on the whole mesh.
 #![tactic(auto)]
 
-mod changes;
 mod fault;
 mod fragment;
 mod made;

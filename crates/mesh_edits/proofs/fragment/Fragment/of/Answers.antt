@@ -1,12 +1,9 @@
 use Rattle.std.proofs.Common.{◌≡◌, ◌∙◌, List, ap, map, sym, subst}
 use Rattle.std.specs.List.{list_any}
 use Rattle.std.specs.List.Sorted.{IsStrictlyIncreasing}
-use Rattle.mesh_data.specs.RingChanges.{IsOriented}
 use Rattle.mesh_data.specs.Triangles.{has_corner}
-use Rattle.half_edge.proofs.Turned.{oriented_turned}
 use Rattle.sheet_data.specs.declared.patches.Mixed.{Mixed}
 use Rattle.sheet_data.specs.Summed.{SummedVertex}
-use Rattle.mesh_sheets.specs.Written.{patch_tris}
 use Rattle.mesh_edits.specs.Fragments.{IsFragment, patch_by}
 use Rattle.mesh_edits.proofs.Entries.{name}
 use Rattle.mesh_edits.proofs.Settled.{fragment_settled, held_settled, patch_on, tris_on}
@@ -29,10 +26,8 @@ invariant_of-result c =
     let rim = c.in_ok-rim.rim in
     let vertices : c.in_ok-vertices.vertices ≡ p.vertices = c.in_ok-vertices.ensures ∙ c.slice.ensures in
     let tris = c.in_ok-halves.ensures.tris ∙ tris_on area p c.requires in
-    let proper = λ k d lt. (c.requires.formed.proper k d lt).0 in
-    let oriented : IsOriented mesh.tris = subst IsOriented (sym c.in_ok-halves.ensures.tris) (oriented_turned (patch_tris p) proper c.in_ok-halves.ensures.good.0) in
     subst (λ (vs : List SummedVertex). IsFragment vs mesh p.mixed rim p.near area) (sym vertices)
-    (fragment_settled area p c.requires mesh rim tris oriented (held_settled p mesh tris c.in_ok-halves.ensures.held)
+    (fragment_settled area p c.requires mesh rim tris (held_settled p mesh tris c.in_ok-halves.ensures.held)
     (λ v. c.in_ok-rim.ensures v ∙ ap (λ (xs : List Mixed). list_any (λ (x : Mixed). has_corner v x.tri) xs) c.slice-2.ensures))
 
 pub returns-clause-patch : goal.returns-clause-patch
