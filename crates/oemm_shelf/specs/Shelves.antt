@@ -1,10 +1,10 @@
 -- A shelf, and what its calls make of it.
-use Rattle.std.specs.Prelude.{◌≡◌, ◌⊎◌, ℕ, ◌+◌, ◌<◌, ◌≤◌, List, length, slice_index, if◌then◌else◌, Some, Result, IsErr}
+use Rattle.std.specs.Prelude.{◌≡◌, ◌⊎◌, ℕ, ◌+◌, ◌<◌, ◌≤◌, List, length, slice_index, if◌then◌else◌, Some, Result, IsErr, OnOk}
 use Rattle.oemm_octree.specs.Leaves.{AreTiles, is_one_of}
 use Rattle.sheet_data.specs.declared.index.IndexSheet.{IndexSheet}
 use Rattle.leaf_codec.specs.Index.{KeepsIndexRules}
 use Rattle.oemm_blobs.specs.Content.{Content, blob_at}
-use Rattle.oemm_blobs.specs.Store.{StoreState, Keeps, Changes}
+use Rattle.oemm_blobs.specs.Store.{StoreState, Keeps, Changes, CountsOne}
 use Rattle.oemm_blobs.specs.declared.blobs.StoreFail.{StoreFail}
 use Rattle.oemm_blobs.specs.declared.keys.Key.{Key}
 use Rattle.mesh_data.specs.declared.edits.Entry.{Entry}
@@ -57,7 +57,8 @@ pub record IsSame {B : Type 0} (old new : ShelfState B) : Type 0 where
   pub versions : new.versions ≡ old.versions
   pub capacity : new.capacity ≡ old.capacity
 
--- A value was to be put under a key: these bytes, which spell it, were asked for, unless memory ran out before.
+-- A value was to be put under a key: these bytes, which spell it, were asked for, unless memory ran out before. A put
+-- that answers Ok was counted.
 pub record Puts {T : Type 0} (k : Key) (Spells : List ℕ → Type 0) (old new : StoreState)
     (result : Result T StoreFail) : Type 0 where
   pub bytes : List ℕ
@@ -66,3 +67,4 @@ pub record Puts {T : Type 0} (k : Key) (Spells : List ℕ → Type 0) (old new :
   pub gets : new.gets ≡ old.gets
   pub kept_puts : old.puts ≤ new.puts
   pub puts : new.puts ≤ old.puts + 1
+  pub one : OnOk result (CountsOne old.puts new.puts)
