@@ -81,11 +81,11 @@ turn : (i : IndexSheet) (k : ℕ) (es : List Entry) (m : Content) → entries_fr
 unfolding entries_from
 turn i k es m = refl
 
-no_turn : (i : IndexSheet) (es : List Entry) (m : Content) → entries_from i 0 es m ≡ Ok es
+pub no_turn : (i : IndexSheet) (es : List Entry) (m : Content) → entries_from i 0 es m ≡ Ok es
 unfolding entries_from
 no_turn i es m = refl
 
-one_turn : (i : IndexSheet) (most : ℕ) (es : List Entry) (m : Content) → length es < most → entries_from i (most - length es) es m
+pub one_turn : (i : IndexSheet) (most : ℕ) (es : List Entry) (m : Content) → length es < most → entries_from i (most - length es) es m
     ≡ entries_upto es (entry_answer i es (blob_at m (key.Entry (length es)))) (λ now. entries_from i (most - (length es + 1)) now m)
 one_turn i most es m lt =
     let e : most - length es ≡ suc (most - (length es + 1)) = omega arith in

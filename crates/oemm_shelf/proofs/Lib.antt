@@ -7,3 +7,4 @@ pub mod Lying
 pub mod Entering
 pub mod Gathered
 pub mod Sound
+pub mod Finding

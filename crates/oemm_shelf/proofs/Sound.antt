@@ -4,10 +4,12 @@ use Rattle.std.specs.List.{All, AllByRecursion, list_all}
 use Rattle.std.specs.List.Sorted.{IsStrictlyIncreasing}
 use Rattle.std.proofs.lemmas.Bool.{and_from, eq-eqb, lt-ltb, or_right}
 use Rattle.std.proofs.lemmas.List.Elements.{recursion_from_All}
-use Rattle.oemm_octree.specs.Leaves.{AreBelow, home, is_one_of}
+use Rattle.oemm_octree.specs.Leaves.{AreBelow, AreTiles, home, is_one_of}
+use Rattle.oemm_octree.proofs.Tilings.{leaves_tile}
 use Rattle.oemm_octree.proofs.Weights.{is_one_of-head}
 use Rattle.mesh_data.specs.declared.edits.Entry.{Entry}
 use Rattle.mesh_data.specs.declared.geometry.Tri.{Tri}
+use Rattle.mesh_data.specs.Mesh.{start}
 use Rattle.mesh_data.specs.Triangles.{corners}
 use Rattle.mesh_sheets.specs.Assembled.{assembled, rim_of}
 use Rattle.mesh_sheets.specs.Sheets.{patch, sheet}
@@ -21,16 +23,16 @@ use Rattle.sheet_data.specs.Summed.{SummedVertex}
 use Rattle.sheet_data.specs.declared.index.IndexSheet.{IndexSheet}
 use Rattle.sheet_data.specs.declared.sheets.LeafSheet.{LeafSheet}
 use Rattle.sheet_forms.specs.Formed.{IsSheetOf}
-use Rattle.sheet_forms.proofs.Storable.{rim_below, storable_agree, storable_sheet}
+use Rattle.sheet_forms.proofs.Storable.{rim_below, start_storable, storable_agree, storable_sheet}
 use Rattle.store_spelling.specs.Spelled.{store_spelling}
 use Rattle.store_spelling.proofs.IndexRules.{vertices_started}
-use Rattle.stored_mesh.specs.Stored.{Base, mesh_of, spelled}
+use Rattle.stored_mesh.specs.Stored.{Base, IsBuilt, mesh_of, spelled}
 use Rattle.stored_mesh.specs.Versions.{version}
 use Rattle.stored_mesh.proofs.Sounds.{sound_storable}
-use Rattle.oemm_shelf.specs.Readings.{◌>>=◌, current_patch, current_sheet, current_sheets, if_passes, is_of_leaf, or_clash, or_damaged, sheet_answer}
+use Rattle.oemm_shelf.specs.Readings.{◌>>=◌, current_patch, current_sheet, current_sheets, if_passes, is_of_leaf, or_clash, or_damaged, sheet_answer, sheet_at}
 use Rattle.oemm_shelf.specs.Shelves.{IsOver}
 
-all_of_each : {X : Type 0} (p : X → Bool) (xs : List X) → AllByRecursion (λ x. p x ≡ true) xs → list_all p xs ≡ true
+pub all_of_each : {X : Type 0} (p : X → Bool) (xs : List X) → AllByRecursion (λ x. p x ≡ true) xs → list_all p xs ≡ true
 all_of_each p [] all = refl
 all_of_each p (x ∷ xs) all = and_from (p x) (list_all p xs) all.0 (all_of_each p xs all.1)
 
@@ -42,7 +44,7 @@ each_both : {X : Type 0} (P Q : X → Type 0) (xs : List X) → AllByRecursion P
 each_both P Q [] all more = tt
 each_both P Q (x ∷ xs) all more = ((all.0, more.0), each_both P Q xs all.1 more.1)
 
-each_below : (n : ℕ) (ls : List ℕ) → AreBelow n ls → AllByRecursion (λ l. ltb l n ≡ true) ls
+pub each_below : (n : ℕ) (ls : List ℕ) → AreBelow n ls → AllByRecursion (λ l. ltb l n ≡ true) ls
 each_below n [] below = tt
 each_below n (l ∷ ls) below =
     (lt-ltb l n (below l (is_one_of-head l ls)), each_below n ls (λ k on. below k (or_right (eqb k l) (is_one_of ls k) on)))
@@ -72,6 +74,17 @@ answered i leaf k None s is passes = absurd (cc)
 answered i leaf k (Some bytes) s is passes =
     ap (λ (o : Option LeafSheet). or_damaged k bytes (if_passes (is_of_leaf i leaf) o)) is
     ∙ ap (λ (b : Bool). or_damaged k bytes (cond b (Some s) None)) passes
+
+pub base_sound : (b : Base) (m : Content) (leaf : ℕ) → IsBuilt store_spelling (blob_at m) b → leaf < length b.index.cells
+    → sheet_at b.index m leaf 0 ≡ Ok (sheet b.index.cells (start b.soup) leaf)
+base_sound b m leaf built lt =
+    let tiles = subst AreTiles (sym built.cells) (leaves_tile b.soup.points b.index.cap) in
+    let names = sym (built.good.2.of_vertices ∙ vertices_started b.soup) in
+    answered b.index leaf (key.Leaf leaf 0) (blob_at m (key.Leaf leaf 0)) (sheet b.index.cells (start b.soup) leaf)
+    (built.sheets leaf lt)
+    (formed_passes b.index (length b.soup.points) leaf (sheet b.index.cells (start b.soup) leaf) names
+    (storable_sheet b.index.cells (length b.soup.points) (start b.soup) leaf
+    (start_storable b.index.cells b.soup tiles built.grid built.few_faces built.good.0) lt))
 
 module _ (b : Base) (journal : List Entry) (m : Content) (versions : List ℕ) (over : IsOver b.index versions m b journal) where
   same_names : length b.soup.points ≡ b.index.vertices
