@@ -14,3 +14,6 @@ mod versions;
 pub use fault::{FoundFault, ShelfFault};
 pub use patch_assembly::Clash;
 pub use shelf::Shelf;
+
+#[cfg(test)]
+mod tests;
