@@ -4,3 +4,4 @@ pub mod Stable
 pub mod Around
 pub mod NearLists
 pub mod Made
+pub mod CutPatches

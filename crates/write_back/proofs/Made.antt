@@ -3,11 +3,10 @@ use Rattle.std.proofs.Common.{◌≡◌, ℕ, Bool, not, ◌&&◌, ◌||◌, eqb
 use Rattle.std.proofs.lemmas.List.Elements.{filter-append}
 use Rattle.std.specs.List.{filter, flat_map, list_any, range_with_len}
 use Rattle.std.specs.List.Sorted.{IsStrictlyIncreasing}
-use Rattle.oemm_lists.specs.Ascending.{in_order}
 use Rattle.oemm_octree.specs.declared.cells.Cell.{Cell}
 use Rattle.oemm_octree.specs.Leaves.{home, is_one_of}
 use Rattle.mesh_data.specs.declared.geometry.Tri.{Tri}
-use Rattle.mesh_data.specs.Triangles.{corners, tri_cmp}
+use Rattle.mesh_data.specs.Triangles.{corners}
 use Rattle.sheet_data.specs.declared.patches.Mixed.{Mixed}
 use Rattle.sheet_data.specs.declared.patches.Patch.{Patch}
 use Rattle.sheet_data.specs.Summed.{SummedVertex}
@@ -16,7 +15,7 @@ use Rattle.neighbour_index.specs.Neighbours.{are_neighbours}
 use Rattle.mesh_sheets.specs.Written.{are_near_by, keeper_by, leaf_by, patch_tris}
 use Rattle.mesh_sheets.proofs.Filters.{map-map, map_itself}
 use Rattle.write_back.specs.Groups.{IsGrouped}
-use Rattle.write_back.specs.Homes.{at_corners, keeper_in, kept, leaf_in, with_homes}
+use Rattle.write_back.specs.Homes.{keeper_in, leaf_in, with_homes}
 use Rattle.write_back.proofs.Around.{near_by_own}
 use Rattle.write_back.proofs.Lookups.{leaf_is}
 

@@ -1,5 +1,5 @@
 -- Leaves that are near, ascending.
-use Rattle.std.proofs.Common.{◌≡◌, ℕ, ◌+◌, ◌<◌, Bool, true, false, ◌&&◌, ltb, List, length, sym, ap, ◌∙◌, refl, arith}
+use Rattle.std.proofs.Common.{◌≡◌, ℕ, ◌+◌, ◌<◌, Bool, true, false, ◌&&◌, ltb, List, sym, ap, ◌∙◌, refl, arith}
 use Rattle.std.proofs.lemmas.Bool.{ltb-true, ltb-false}
 use Rattle.std.proofs.lemmas.List.Kept.{IsStrictlyIncreasing-filter}
 use Rattle.std.specs.List.{filter, range_with_len}
@@ -7,7 +7,7 @@ use Rattle.std.specs.List.Sorted.{IsStrictlyIncreasing}
 use Rattle.oemm_octree.specs.Leaves.{is_one_of}
 use Rattle.mesh_sheets.proofs.Assembling.{one_of_range}
 use Rattle.mesh_sheets.proofs.Climbing.{increasing, range_climbs}
-use Rattle.mesh_sheets.proofs.Filters.{and_false, filter_all, one_of_filter}
+use Rattle.mesh_sheets.proofs.Filters.{filter_all, one_of_filter}
 use Rattle.mesh_sheets.proofs.Rims.{range_below}
 use Rattle.mesh_cutting.proofs.OneList.{one_list}
 

@@ -1,6 +1,6 @@
 -- The homes of the names of a patch, and its items by leaves.
 use Rattle.std.specs.Prelude.{◌≡◌, ℕ, ◌==◌, List, ◌++◌, map, min}
-use Rattle.std.specs.List.{filter, find, flat_map}
+use Rattle.std.specs.List.{filter, find}
 use Rattle.std.specs.List.Sorted.{IsNonDecreasingBy}
 use Rattle.std.specs.Option.{option_map_or}
 use Rattle.mesh_data.specs.declared.geometry.Tri.{Tri}

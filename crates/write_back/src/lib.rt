@@ -7,3 +7,6 @@ mod near;
 mod writing;
 
 pub use writing::sheets_of;
+
+#[cfg(test)]
+mod tests;

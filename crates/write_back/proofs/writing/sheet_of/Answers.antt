@@ -1,12 +1,10 @@
-use Rattle.std.proofs.Common.{◌≡◌, ◌∙◌, ◌||◌, ℕ, List, eqb, filter, map, ap, subst, sym}
+use Rattle.std.proofs.Common.{◌∙◌, ◌||◌, eqb, filter, map, ap, subst, sym}
 use Rattle.std.specs.List.{flat_map, range_with_len}
 use Rattle.std.specs.List.Sorted.{IsNonDecreasingBy, IsStrictlyIncreasing}
 use Rattle.oemm_lists.specs.Ascending.{in_order}
 use Rattle.oemm_octree.specs.Leaves.{is_one_of}
-use Rattle.mesh_data.specs.declared.geometry.Tri.{Tri}
 use Rattle.mesh_data.specs.Triangles.{tri_cmp}
 use Rattle.mesh_sheets.specs.Written.{written}
-use Rattle.sheet_data.specs.Summed.{SummedVertex}
 use Rattle.neighbour_index.specs.Neighbours.{are_neighbours}
 use Rattle.write_back.specs.Homes.{with_homes}
 use Rattle.write_back.proofs.Made.{faces_made, names_rise, near_made, vertices_made}
