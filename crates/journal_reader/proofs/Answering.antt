@@ -1,5 +1,5 @@
 -- What is read of a whole text is what the text is, and where reading stops the text goes wrong.
-use Rattle.std.proofs.Common.{◌≡◌, ℕ, zero, suc, ◌+◌, ◌^◌, ◌<◌, ◌≤◌, Bool, true, false, cond, ◌==◌, eqb, List, [], ◌∷◌, ◌++◌, length, take, drop, get_or, Option, Some, None, option_and_then, Result, Ok, Err, refl, sym, ap, subst, ◌∙◌, append_assoc, append-nil, arith, length-append, ◌⊎◌, inl, inr}
+use Rattle.std.proofs.Common.{◌≡◌, ℕ, zero, suc, ◌+◌, ◌^◌, ◌<◌, ◌≤◌, Bool, true, false, cond, ◌==◌, List, [], ◌∷◌, ◌++◌, length, take, drop, Option, Some, None, option_and_then, Result, Ok, Err, refl, sym, ap, subst, ◌∙◌, append_assoc, append-nil, arith, length-append, ◌⊎◌, inl, inr}
 use Rattle.std.proofs.lemmas.Bool.{eq-eqb, eqb-true, false≢true}
 use Rattle.std.proofs.lemmas.Grind.{flat_map-append}
 use Rattle.std.proofs.lemmas.List.{take-append-drop, take-append-le, take_at}
@@ -27,7 +27,7 @@ use Rattle.journal_reader.specs.Journal.{Answers, BeginsJournal, GoesWrongIn, Is
 use Rattle.journal_reader.specs.Readings.{Gives}
 use Rattle.journal_reader.proofs.LineSpells.{IsShort, line_text}
 use Rattle.journal_reader.proofs.Writing.{Goes, IsDraft, IsLast, HasLast, all_push, asked_text, draft_text, left_goes, reply_goes}
-use Rattle.journal_reader.proofs.Reaching.{Adds, HasNoFeed, Reaches, at, by_bytes, by_line, head_is_head, head_of, ran, ran-append, reach_entry, stays, then}
+use Rattle.journal_reader.proofs.Reaching.{HasNoFeed, Reaches, at, by_bytes, by_line, head_is_head, head_of, ran, ran-append, reach_entry, stays, then}
 
 -- ---- steps of reading
 

@@ -1,8 +1,8 @@
 -- What a text says is said once, and entries that have spellings can be told.
-use Rattle.std.proofs.Common.{◌≡◌, ℕ, zero, suc, ◌+◌, ◌^◌, ◌<◌, ◌≤◌, Bool, true, false, cond, ◌&&◌, List, [], ◌∷◌, ◌++◌, length, map, slice_get, Option, Some, None, Result, Ok, Err, ℤ, FitsSigned, w16, refl, sym, ap, subst, ◌∙◌, append_assoc, arith, length-append, ◌⊎◌, inl, inr}
-use Rattle.std.proofs.lemmas.Bool.{and_parts, cases_order, false≢true}
+use Rattle.std.proofs.Common.{◌≡◌, ℕ, suc, ◌+◌, ◌^◌, ◌<◌, ◌≤◌, Bool, true, false, List, [], ◌∷◌, ◌++◌, length, map, slice_get, Option, Some, Result, Ok, Err, ℤ, FitsSigned, w16, refl, sym, ap, ◌∙◌, append_assoc, arith, length-append, ◌⊎◌, inl, inr}
+use Rattle.std.proofs.lemmas.Bool.{and_parts, cases_order}
 use Rattle.std.proofs.lemmas.Int.{ints}
-use Rattle.std.specs.List.{AllByRecursion, flat_map, slice_split}
+use Rattle.std.specs.List.{AllByRecursion}
 use Rattle.std.specs.Option.{option_map_or}
 use Rattle.oemm_octree.specs.Octree.{IsOnGrid, on_grid}
 use Rattle.oemm_octree.specs.declared.points.Point.{Point}
@@ -19,13 +19,12 @@ use Rattle.leaf_codec.specs.Edits.{FitsEdit, is_edit}
 use Rattle.leaf_codec.specs.Entries.{FitsEntry, KeepsEntryRules, replies_of}
 use Rattle.leaf_codec.specs.Replies.{FitsReply, FitsStep, is_reply, may_answer, reply_follows}
 use Rattle.commit_journal.specs.Text.{entry_text, journal_text}
-use Rattle.journal_reader.specs.declared.draft.Draft.{Draft}
 use Rattle.journal_reader.specs.declared.fault.JournalFault.{JournalFault}
 use Rattle.journal_reader.specs.declared.fault.JournalFault.TheVariants.{Syntax, Memory}
 use Rattle.journal_reader.specs.Drafts.{nothing, told}
-use Rattle.journal_reader.specs.Journal.{Answers, AreAnswered, EditFits, GoesWrongIn, HasEdits, IsEdit, IsReplyTo, IsTold, ReadsAs, ReplyFits, StepFits, bare, is_feed}
+use Rattle.journal_reader.specs.Journal.{Answers, AreAnswered, EditFits, GoesWrongIn, HasEdits, IsEdit, IsTold, ReadsAs, ReplyFits, StepFits, bare}
 use Rattle.journal_reader.proofs.Reaching.{ran}
-use Rattle.journal_reader.proofs.Answering.{Lines, journal_lines, last_of, parts_of}
+use Rattle.journal_reader.proofs.Answering.{journal_lines, last_of, parts_of}
 
 -- ---- one reading, one line
 

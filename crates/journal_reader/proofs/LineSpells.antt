@@ -1,9 +1,9 @@
 -- Lines are read as they are written.
-use Rattle.std.proofs.Common.{◌≡◌, ℕ, zero, suc, ◌+◌, ◌^◌, ◌<◌, ◌≤◌, Bool, true, false, cond, not, ◌&&◌, ltb, leb, int_le, List, [], ◌∷◌, ◌++◌, length, take, drop, Option, Some, None, Result, Ok, Err, bytes_eq, codes, ℤ, pos, negsuc, nat_abs, refl, sym, ap, subst, ◌∙◌, append_assoc, arith}
-use Rattle.std.proofs.lemmas.Bool.{and_from, and_parts, le-leb, leb-true, lt-ltb, ltb-true}
+use Rattle.std.proofs.Common.{◌≡◌, ℕ, ◌^◌, ◌<◌, ◌≤◌, Bool, true, false, cond, leb, int_le, List, [], ◌∷◌, ◌++◌, length, take, drop, Some, Result, Ok, Err, bytes_eq, codes, ℤ, pos, negsuc, nat_abs, refl, sym, ap, subst, ◌∙◌, append_assoc, arith}
+use Rattle.std.proofs.lemmas.Bool.{and_from, and_parts, le-leb, leb-true}
 use Rattle.std.proofs.lemmas.Bool.Decides.{nat_tests}
 use Rattle.std.proofs.lemmas.Int.{ints}
-use Rattle.std.proofs.lemmas.List.{append-nil, take-append-drop}
+use Rattle.std.proofs.lemmas.List.{take-append-drop}
 use Rattle.std.proofs.lemmas.Slice.Eq.{bytes_eq-Decides}
 use Rattle.std.specs.Fmt.{decimal, signed_decimal}
 use Rattle.std.specs.Result.{result_ok}
@@ -18,22 +18,22 @@ use Rattle.mesh_data.specs.declared.edits.Reply.{Reply}
 use Rattle.mesh_data.specs.declared.edits.Reply.TheVariants.{Unheld, Frozen, Same, Apart, Border, Link, Closed, Folds, Dear, Edge, Outside, Done, DoneAt, Simplified}
 use Rattle.mesh_data.specs.declared.edits.Step.{Step}
 use Rattle.byte_grammar.specs.Keeps.{Always}
-use Rattle.byte_grammar.specs.Reader.{Reader, ◌>>=◌, done, next, unit, ended, last_of, whole, IsBytes}
-use Rattle.byte_grammar.proofs.Spells.{IsBytes-rest, Spells, Spells-then, Spells-last, Spells-unit, next_ok, ok_is, whole_again, whole_takes}
+use Rattle.byte_grammar.specs.Reader.{Reader, done, next, whole, IsBytes}
+use Rattle.byte_grammar.proofs.Spells.{IsBytes-rest, Spells, Spells-then, Spells-last, Spells-unit, ok_is, whole_again, whole_takes}
 use Rattle.byte_grammar.proofs.Variants.{Makes, Makes-then, Makes-last, Makes-one}
 use Rattle.geometry_bytes.specs.Geometry.{is_turned}
 use Rattle.leaf_codec.specs.Edits.{is_bound, is_edit}
 use Rattle.leaf_codec.specs.Entries as spelled
 use Rattle.leaf_codec.specs.Replies.{is_cost, is_reply}
-use Rattle.commit_journal.specs.Text.{edit_line, head_line, indented, reply_lines, step_line}
+use Rattle.commit_journal.specs.Text.{edit_line, head_line, reply_lines, step_line}
 use Rattle.journal_reader.specs.declared.lines.EntryHead.{EntryHead}
 use Rattle.journal_reader.specs.declared.lines.JournalLine.{JournalLine}
 use Rattle.journal_reader.specs.declared.lines.JournalLine.TheVariants.{HeadLine, EditLine, ReplyLine, StepLine, LeftLine}
 use Rattle.journal_reader.specs.declared.numbers.TheConstants.{MOST_NUMBER, MOST_SIZE}
 use Rattle.journal_reader.specs.Drafts.{begun}
-use Rattle.journal_reader.specs.Journal.{EditFits, IsEdit, ReplyFits, StepFits}
+use Rattle.journal_reader.specs.Journal.{IsEdit, ReplyFits, StepFits}
 use Rattle.journal_reader.specs.Lines.{by_word, or_else, one, coordinate_at_end, corner_at_end, head_fields, has_box, head, bound, moved, collapsed, flipped, simplified, edit_rows, edit, plain_rows, plain, last_name, last_cost, named_rows, named, triple, folded, pair, is_ascending, edge, valued_rows, valued, reply, stepped, reply_line, line, line_of}
-use Rattle.journal_reader.specs.Numbers.{is_end, in_front, coordinate_before, point_before, signed_before, number_before}
+use Rattle.journal_reader.specs.Numbers.{is_end, coordinate_before, point_before, signed_before, number_before}
 use Rattle.journal_reader.proofs.NumberSpells.{Spells-number, Spells-signed, Spells-coordinate, signed_stands}
 
 -- ---- rows, each with its word
@@ -545,15 +545,6 @@ valued_are = (
     ),
   ),
 )
-
--- of bytes that begin with none of the words before, one reader's answer
-third : {W : Type 0} (x : W × List ℕ) (m n : ℕ) (one two three : Result (W × List ℕ) ℕ) → one ≡ Err m → two ≡ Err n → three ≡ Ok x
-    → or_else one (or_else two three) ≡ Ok x
-third x m n one two three e f g = or_else_second x m one (or_else two three) e (or_else_second x n two three f g)
-
-second : {W : Type 0} (x : W × List ℕ) (m : ℕ) (one two three : Result (W × List ℕ) ℕ) → one ≡ Err m → two ≡ Ok x
-    → or_else one (or_else two three) ≡ Ok x
-second x m one two three e f = or_else_second x m one (or_else two three) e (or_else_first x two three f)
 
 plain_again : (rest : List ℕ)
     → (reply (reply_text Same ++ rest) ≡ Ok (Same, rest)) × (reply (reply_text Apart ++ rest) ≡ Ok (Apart, rest)) × (reply (reply_text Border ++ rest) ≡ Ok (Border, rest)) × (reply (reply_text Closed ++ rest) ≡ Ok (Closed, rest)) × (reply (reply_text Outside ++ rest) ≡ Ok (Outside, rest)) × (reply (reply_text Done ++ rest) ≡ Ok (Done, rest))

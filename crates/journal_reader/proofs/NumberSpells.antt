@@ -1,5 +1,5 @@
 -- Numbers are read as they are written.
-use Rattle.std.proofs.Common.{◌≡◌, ℕ, zero, suc, ◌+◌, ◌^◌, ◌<◌, ◌≤◌, Bool, true, false, cond, not, ◌&&◌, ◌||◌, ◌==◌, eqb, ltb, leb, List, [], ◌∷◌, ◌++◌, length, take, drop, position, Option, Some, None, Result, Ok, Err, bytes_eq, codes, ℤ, pos, negsuc, neg_ℤ, nat_abs, refl, sym, ap, subst, ◌∙◌, append_assoc, arith, length-append}
+use Rattle.std.proofs.Common.{◌≡◌, ℕ, zero, suc, ◌^◌, ◌<◌, ◌≤◌, Bool, true, false, cond, ◌&&◌, ltb, leb, List, [], ◌∷◌, ◌++◌, length, take, drop, position, Option, Some, None, Ok, Err, bytes_eq, codes, ℤ, pos, negsuc, nat_abs, refl, sym, ap, subst, ◌∙◌, append_assoc, arith, length-append}
 use Rattle.std.proofs.Math.Dec.{eqb-suc-zero}
 use Rattle.std.proofs.lemmas.Bool.{and_parts, le-leb, leb-true, lt-ltb, ne_eqb}
 use Rattle.std.proofs.lemmas.Fmt.{decimal_is_IsNumeral_wide}
@@ -13,7 +13,7 @@ use Rattle.std.specs.Str.Parse.{AllDigits}
 use Rattle.oemm_lines.specs.Numbers.{unsigned_of}
 use Rattle.oemm_lines.proofs.NumberLaws.{unsigned_of-decimal}
 use Rattle.oemm_octree.specs.Octree.{on_grid}
-use Rattle.byte_grammar.specs.Reader.{Reader, ◌>>=◌, done, next, kept, unit, IsBytes}
+use Rattle.byte_grammar.specs.Reader.{◌>>=◌, done, next}
 use Rattle.byte_grammar.proofs.Spells.{Spells, Spells-unit, found, ok_is, next_ok}
 use Rattle.journal_reader.specs.declared.numbers.TheConstants.{MOST_SIZE}
 use Rattle.journal_reader.specs.Numbers.{is_end, written, number_of, in_front, number_before, negated, below_zero, signed_before, coordinate_before}

@@ -1,11 +1,11 @@
 -- The lines that lead from one draft to another.
-use Rattle.std.proofs.Common.{◌≡◌, ℕ, zero, suc, ◌+◌, ◌^◌, ◌<◌, ◌≤◌, Bool, true, false, cond, not, ◌&&◌, ◌||◌, ◌==◌, eqb, ltb, leb, int_le, List, [], ◌∷◌, ◌++◌, length, codes, Option, Some, None, option_and_then, ℤ, pos, negsuc, nat_abs, refl, sym, ap, subst, ◌∙◌, append_assoc, append-nil, arith, length-append, ◌⊎◌, inl, inr}
-use Rattle.std.proofs.lemmas.Bool.{and_from, and_parts, eq-eqb, false≢true, leb-true, lt-ltb}
+use Rattle.std.proofs.Common.{◌≡◌, ℕ, suc, ◌+◌, ◌^◌, ◌<◌, ◌≤◌, Bool, true, false, cond, not, ◌||◌, ◌==◌, leb, int_le, List, [], ◌∷◌, ◌++◌, length, codes, Option, Some, None, option_and_then, ℤ, pos, negsuc, nat_abs, refl, sym, ap, subst, ◌∙◌, append_assoc, append-nil, arith, length-append, ◌⊎◌, inl, inr}
+use Rattle.std.proofs.lemmas.Bool.{and_parts, false≢true, leb-true, lt-ltb}
 use Rattle.std.proofs.lemmas.Grind.{flat_map-append}
 use Rattle.std.specs.Fmt.{decimal, signed_decimal}
 use Rattle.std.specs.List.{AllByRecursion, flat_map, list_all}
 use Rattle.std.specs.Option.{option_map}
-use Rattle.oemm_limits.specs.declared.TheConstants.{LAST_LANE, MOST_COST, MOST_EDITS, MOST_ITEMS}
+use Rattle.oemm_limits.specs.declared.TheConstants.{MOST_COST, MOST_EDITS, MOST_ITEMS}
 use Rattle.oemm_lists.specs.TextLine as text
 use Rattle.oemm_octree.specs.Octree.{IsOnGrid, on_grid}
 use Rattle.oemm_octree.specs.declared.points.Point.{Point}
@@ -26,12 +26,12 @@ use Rattle.journal_reader.specs.declared.draft.Draft.{Draft}
 use Rattle.journal_reader.specs.declared.lines.EntryHead.{EntryHead}
 use Rattle.journal_reader.specs.declared.lines.JournalLine.{JournalLine}
 use Rattle.journal_reader.specs.declared.lines.JournalLine.TheVariants.{HeadLine, EditLine, ReplyLine, StepLine, LeftLine}
-use Rattle.journal_reader.specs.Drafts.{after, after_bytes, after_within, answered, asked_too, begun, is_simplify, nothing, opened, told, within}
-use Rattle.journal_reader.specs.Journal.{AreAnswered, HasEdits, IsEdit, IsReplyTo, IsTold, StepFits, with_feed}
+use Rattle.journal_reader.specs.Drafts.{after, after_bytes, after_within, answered, asked_too, begun, is_simplify, told, within}
+use Rattle.journal_reader.specs.Journal.{AreAnswered, IsEdit, IsReplyTo, IsTold, StepFits, with_feed}
 use Rattle.journal_reader.specs.Lines.{line_of}
 use Rattle.journal_reader.proofs.NumberSpells.{IsWord, decimal_word}
 use Rattle.journal_reader.proofs.LineSpells.{IsHead, IsLine, IsOneLine, IsShort, first_of_lines, grid_small, left_line, line_of-found, line_of-text, line_text, reply_text}
-use Rattle.journal_reader.proofs.Writing.{Goes, IsDraft, IsStep, draft_text, edits_wide, goes, narrow_edits, wide_edits}
+use Rattle.journal_reader.proofs.Writing.{IsDraft, IsStep, draft_text, goes, narrow_edits, wide_edits}
 
 -- ---- the bytes of a line in front of its line feed
 

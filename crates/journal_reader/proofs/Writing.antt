@@ -1,10 +1,10 @@
 -- The text of a draft, and what one more line adds to it.
-use Rattle.std.proofs.Common.{◌≡◌, ℕ, zero, suc, ◌+◌, ◌^◌, ◌<◌, ◌≤◌, Bool, true, false, cond, not, ◌&&◌, ◌==◌, eqb, ltb, leb, List, [], ◌∷◌, ◌++◌, length, map, Option, Some, None, option_and_then, refl, sym, ap, subst, ◌∙◌, append_assoc, append-nil, arith, length-append, zero-add, add_assoc}
+use Rattle.std.proofs.Common.{◌≡◌, ℕ, suc, ◌+◌, ◌^◌, ◌<◌, ◌≤◌, Bool, true, false, cond, ◌&&◌, eqb, ltb, List, [], ◌∷◌, ◌++◌, length, map, Option, Some, None, refl, sym, ap, subst, ◌∙◌, append_assoc, append-nil, arith, length-append}
 use Rattle.std.proofs.lemmas.Bool.{and_from, and_parts, eqb-true, false≢true, le-leb, ltb-true}
 use Rattle.std.proofs.lemmas.Grind.{flat_map-append}
 use Rattle.std.specs.List.{AllByRecursion, list_all}
 use Rattle.std.specs.Option.{option_map}
-use Rattle.oemm_limits.specs.declared.TheConstants.{LAST_LANE, MOST_EDITS}
+use Rattle.oemm_limits.specs.declared.TheConstants.{MOST_EDITS}
 use Rattle.mesh_data.specs.declared.edits.Edit.{Edit}
 use Rattle.mesh_data.specs.declared.edits.Edit.TheVariants.{Move, Collapse, Flip, Simplify}
 use Rattle.mesh_data.specs.declared.edits.Entry.{Entry}
@@ -12,7 +12,7 @@ use Rattle.mesh_data.specs.declared.edits.Reply.{Reply}
 use Rattle.mesh_data.specs.declared.edits.Reply.TheVariants.{Unheld, Frozen, Same, Apart, Border, Link, Closed, Folds, Dear, Edge, Outside, Done, DoneAt, Simplified}
 use Rattle.mesh_data.specs.declared.edits.Step.{Step}
 use Rattle.leaf_codec.specs.Replies.{is_cost, is_reply, is_step, may_answer}
-use Rattle.commit_journal.specs.Text.{answered_edit, answered_edits, edit_line, entry_text, head_line, indented, journal_text, reply_lines, step_line, told_replies}
+use Rattle.commit_journal.specs.Text.{answered_edit, answered_edits, edit_line, entry_text, head_line, indented, journal_text, reply_lines, step_line}
 use Rattle.journal_reader.specs.declared.draft.TheConstants.{MOST_STEPS}
 use Rattle.journal_reader.specs.declared.draft.Asked.{Asked}
 use Rattle.journal_reader.specs.declared.draft.LastEntry.{LastEntry}

@@ -1,5 +1,5 @@
 -- The entries of the lines so far, and what one more line makes of them.
-use Rattle.std.specs.Prelude.{ℕ, ◌+◌, ◌==◌, nat_lt, Bool, true, false, ◌&&◌, List, [], ◌∷◌, ◌++◌, length, Option, Some, None, option_and_then, Result, Ok, Err, if◌then◌else◌}
+use Rattle.std.specs.Prelude.{ℕ, ◌+◌, ◌==◌, nat_lt, Bool, true, false, ◌&&◌, List, [], ◌∷◌, ◌++◌, length, Option, Some, None, option_and_then, Result, Err, if◌then◌else◌}
 use Rattle.std.specs.Option.{ok_or, option_map, option_map_or}
 use Rattle.oemm_limits.specs.declared.TheConstants.{MOST_EDITS}
 use Rattle.mesh_data.specs.declared.edits.Edit.{Edit}

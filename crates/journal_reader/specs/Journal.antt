@@ -1,5 +1,5 @@
 -- The texts of journals, and the line in which another text goes wrong.
-use Rattle.std.specs.Prelude.{◌≡◌, ◌≢◌, ℕ, ◌+◌, ◌^◌, ◌<◌, ◌≤◌, Bool, true, false, ◌==◌, List, [], ◌∷◌, ◌++◌, length, take, Result, Ok, Err}
+use Rattle.std.specs.Prelude.{◌≡◌, ℕ, ◌+◌, ◌^◌, ◌<◌, ◌≤◌, Bool, true, false, ◌==◌, List, [], ◌∷◌, ◌++◌, length, take, Result, Ok, Err}
 use Rattle.std.specs.List.{AllByRecursion, flat_map, slice_split}
 use Rattle.oemm_limits.specs.declared.TheConstants.{LAST_LANE, MOST_EDITS}
 use Rattle.oemm_octree.specs.Octree.{IsOnGrid}

@@ -1,18 +1,15 @@
 -- The lines of a journal: what they say, how that is read, and their texts.
-use Rattle.std.specs.Prelude.{ℕ, ◌<◌, ◌≤◌, ◌≡◌, ◌^◌, Bool, true, false, ◌&&◌, nat_lt, int_le, bytes_eq, codes, ℤ, pos, List, [], ◌∷◌, ◌++◌, length, take, drop, Option, Some, None, Result, Ok, Err, if◌then◌else◌}
+use Rattle.std.specs.Prelude.{ℕ, Bool, true, false, nat_lt, int_le, bytes_eq, codes, ℤ, pos, List, [], ◌∷◌, length, take, drop, Option, Result, Ok, Err, if◌then◌else◌}
 use Rattle.std.specs.Result.{result_ok}
-use Rattle.std.specs.Fmt.{decimal}
 use Rattle.oemm_limits.specs.declared.TheConstants.{LAST_LANE, MOST_COST, MOST_ITEMS}
-use Rattle.oemm_lists.specs.TextLine as text
 use Rattle.oemm_octree.specs.declared.points.Point.{Point}
 use Rattle.mesh_data.specs.declared.geometry.Tri.{Tri}
 use Rattle.mesh_data.specs.declared.edits.Edit.{Edit}
 use Rattle.mesh_data.specs.declared.edits.Edit.TheVariants.{Move, Collapse, Flip, Simplify}
-use Rattle.mesh_data.specs.declared.edits.Entry.{Entry}
 use Rattle.mesh_data.specs.declared.edits.Reply.{Reply}
 use Rattle.mesh_data.specs.declared.edits.Reply.TheVariants.{Unheld, Frozen, Same, Apart, Border, Link, Closed, Folds, Dear, Edge, Outside, Done, DoneAt}
 use Rattle.mesh_data.specs.declared.edits.Step.{Step}
-use Rattle.byte_grammar.specs.Reader.{Reader, ◌>>=◌, done, next, unit, whole}
+use Rattle.byte_grammar.specs.Reader.{Reader, ◌>>=◌, done, unit, whole}
 use Rattle.geometry_bytes.specs.Geometry.{is_turned}
 use Rattle.leaf_codec.specs.Entries as spelled
 use Rattle.journal_reader.specs.declared.lines.EntryHead.{EntryHead}

@@ -5,7 +5,7 @@ use Rattle.std.specs.Option.{option_map_or}
 use Rattle.oemm_lines.specs.Numbers.{unsigned_of}
 use Rattle.oemm_octree.specs.Octree.{on_grid}
 use Rattle.oemm_octree.specs.declared.points.Point.{Point}
-use Rattle.byte_grammar.specs.Reader.{Reader, ◌>>=◌, done, next, unit}
+use Rattle.byte_grammar.specs.Reader.{Reader, ◌>>=◌, done, unit}
 use Rattle.journal_reader.specs.declared.numbers.TheConstants.{MOST_SIZE}
 
 -- a space or a line feed
