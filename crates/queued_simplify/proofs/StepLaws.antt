@@ -14,7 +14,7 @@ use Rattle.mesh_data.specs.Planes.{plane_value, squares}
 use Rattle.edit_laws.proofs.FarPairs.{get-away, planes-away}
 use Rattle.edit_laws.proofs.SeenEffects.{get-collapsed, taking}
 use Rattle.edit_steps.proofs.Steps.{le_antisymm}
-use Rattle.queued_simplify.specs.Errors.{ErrorMesh, collapse_reply, contracted, contracted_by, price, with_plane_errors}
+use Rattle.queued_simplify.specs.Errors.{ErrorMesh, collapse_reply, contracted, contracted_by, made_by, price, with_plane_errors}
 use Rattle.queued_simplify.specs.LeastSteps.{AreLeastStepsBy}
 use Rattle.queued_simplify.proofs.Prices.{pair_of_done}
 
@@ -110,6 +110,11 @@ by_planes inside m most target (s ∷ ss) h =
     )
 
 -- one collapse more
+pub made_by_more : {X : Type 0} (make : X → ℕ → ℕ → X) (x : X) (ss : List Step) (s : Step)
+    → made_by make x (ss ++ s ∷ []) ≡ make (made_by make x ss) s.u s.v
+made_by_more make x [] s = refl
+made_by_more make x (t ∷ ss) s = made_by_more make (make x t.u t.v) ss s
+
 pub made_more : (w : ErrorMesh) (ss : List Step) (s : Step)
     → contracted_by w (ss ++ s ∷ []) ≡ contracted (contracted_by w ss) s.u s.v
 made_more w [] s = refl

@@ -38,6 +38,11 @@ abbrev pub contracted_by : ErrorMesh → List Step → ErrorMesh
 contracted_by w [] = w
 contracted_by w (s ∷ ss) = contracted_by (contracted w s.u s.v) ss
 
+-- what these collapses leave, one after another, where each leaves this
+abbrev pub made_by : {X : Type 0} → (X → ℕ → ℕ → X) → X → List Step → X
+made_by make x [] = x
+made_by make x (s ∷ ss) = made_by make (make x s.u s.v) ss
+
 -- a mesh whose vertices have planes, with the sums of squared values of these as errors
 abbrev pub with_plane_errors : Mesh → ErrorMesh
 with_plane_errors m = record { mesh = m; error = λ v p. squares (planes_or_none m v) p }

@@ -21,6 +21,12 @@ pub trait Simplifiable {
     /// The test of the points that lie in the area.
     ghost inside: { Self → Point → Bool };
 
+    /// What a collapse of a name onto another leaves.
+    ghost collapsed: { Self → ℕ → ℕ → Self };
+
+    /// The part that no collapse changes.
+    ghost rest: { Self → Self };
+
     /// How many triangles have all three vertices held. A simplification asks for it at each step: keep the count.
     fn whole_count(&self) -> usize
         ensures { result ≡ whole_count (inside self.now) (seen self.now).mesh };
@@ -64,6 +70,8 @@ pub trait Simplifiable {
     /// Want of memory.
     fn collapse(&mut self, alloc: Global, u: Name, v: Name) -> Result<(), AllocError>
         requires { CanCollapse (inside self.old) (seen self.old) u v }
+        ensures made { OnOk result (self.new ≡ collapsed self.old u v) }
+        ensures rest { rest self.new ≡ rest self.old }
         ensures mesh { OnOk result (seen self.new ≡ contracted (seen self.old) u v) }
         ensures area { OnOk result (inside self.new ≡ inside self.old) };
 }

@@ -1,7 +1,7 @@
 //! Simplification.
 
 ghost use Rattle.std.specs.Prelude.{◌≡◌, ◌≤◌, length, IfOk, OnOk};
-ghost use Rattle.queued_simplify.specs.Errors.{contracted_by};
+ghost use Rattle.queued_simplify.specs.Errors.{contracted_by, made_by};
 ghost use Rattle.queued_simplify.specs.LeastSteps.{AreLeastStepsBy};
 ghost use Rattle.queued_simplify.specs.Turns.{IsFit, IsInOrder, IsReady};
 
@@ -52,6 +52,8 @@ pub fn simplify<M: Simplifiable>(
     requires order { IsInOrder (M.seen mesh.old).mesh }
     requires few { length (M.seen mesh.old).mesh.tris ≤ MOST_ITEMS }
     ensures steps { IfOk result (λ steps. AreLeastStepsBy (M.inside mesh.old) (M.seen mesh.old) max target steps) }
+    ensures made { IfOk result (λ steps. mesh.new ≡ made_by M.collapsed mesh.old steps) }
+    ensures rest { M.rest mesh.new ≡ M.rest mesh.old }
     ensures mesh { IfOk result (λ steps. M.seen mesh.new ≡ contracted_by (M.seen mesh.old) steps) }
     ensures area { OnOk result (M.inside mesh.new ≡ M.inside mesh.old) }
 {

@@ -47,6 +47,8 @@ pub(crate) fn turn<M: Simplifiable>(
     requires done { collapse_reply (M.inside mesh.old) (M.seen mesh.old) step.now.u step.now.v max ≡ DoneAt step.now.cost }
     requires ready { IsReadyBut (λ x. x ≡ step.now.u) (M.inside mesh.old) max (M.seen mesh.old) queue.old refused.old }
     requires fit { IsFit (M.inside mesh.old) (M.seen mesh.old).mesh stamp queue.old }
+    ensures made { OnOk result (mesh.new ≡ M.collapsed mesh.old step.now.u step.now.v) }
+    ensures rest { M.rest mesh.new ≡ M.rest mesh.old }
     ensures mesh { OnOk result (M.seen mesh.new ≡ contracted (M.seen mesh.old) step.now.u step.now.v) }
     ensures area { OnOk result (M.inside mesh.new ≡ M.inside mesh.old) }
     ensures ready { OnOk result (IsReady (M.inside mesh.new) max (M.seen mesh.new) queue.new refused.new) }

@@ -7,11 +7,11 @@ use Rattle.mesh_data.specs.declared.edits.Step.{Step}
 use Rattle.mesh_data.specs.Edits.{whole_count}
 use Rattle.edit_steps.proofs.Simplification.{len-collapsed}
 use Rattle.edit_steps.proofs.Tried.{held_there}
-use Rattle.queued_simplify.specs.Errors.{ErrorMesh, contracted, contracted_by}
+use Rattle.queued_simplify.specs.Errors.{ErrorMesh, contracted, contracted_by, made_by}
 use Rattle.queued_simplify.specs.LeastSteps.{AreLeastStepsBy, HasNoneDone, IsLeastDone}
 use Rattle.queued_simplify.specs.Turns.{IsFit, IsInOrder, IsNext, IsReady}
 use Rattle.queued_simplify.proofs.Prices.{pair_of_done}
-use Rattle.queued_simplify.proofs.StepLaws.{made_more}
+use Rattle.queued_simplify.proofs.StepLaws.{made_by_more, made_more}
 use Rattle.queued_simplify.proofs.Turns.{order_then}
 use Rattle.queued_simplify.proofs.simplification.simplify.Goals as goal
 use Rattle.queued_simplify.proofs.simplification.simplify.Goals.{else-loop-alloc-test, then-loop-alloc-test+in_ok-step+in_default}
@@ -105,6 +105,10 @@ loop-alloc-preserved g c =
       fit = subst (λ k. IsFit I n.mesh k c.turn.new.queue) later
           (subst (λ (K : Point → Bool). IsFit K n.mesh (c.len-stamp.result + 1) c.turn.new.queue) same_area
           c.in_ok-turn.ensures.fit);
+      kept = c.in_ok-turn.ensures.made ∙ ap (λ m. g.M.Simplifiable.collapsed m s.u s.v) c.loop-alloc.invariant.kept
+          ∙ sym (made_by_more g.M.Simplifiable.collapsed c.args.mesh.now steps s)
+          ∙ ap (made_by g.M.Simplifiable.collapsed c.args.mesh.now) (sym grown);
+      rest = c.turn.ensures.rest ∙ c.loop-alloc.invariant.rest;
       made = made ∙ ap (λ (k : ErrorMesh). contracted k s.u s.v) c.loop-alloc.invariant.made ∙ sym (made_more F steps s)
           ∙ ap (contracted_by F) (sym grown);
       least = λ rest h.
@@ -139,6 +143,10 @@ returns-clause-steps g c =
           (subst (IsNext J top w x.next_step.new.queue x.next_step.new.refused) x.in_default.is
           x.in_ok-step.ensures.next)))
     ]
+
+pub returns-clause-made : goal.returns-clause-made
+returns-clause-made g c =
+    c.loop-alloc.invariant.kept ∙ ap (made_by g.M.Simplifiable.collapsed c.args.mesh.now) (sym c.from_vec.ensures)
 
 pub returns-clause-mesh : goal.returns-clause-mesh
 returns-clause-mesh g c =
