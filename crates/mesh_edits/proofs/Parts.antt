@@ -70,7 +70,7 @@ shared_told ts u v Good told = sym told.0
 pub alone_out : (p : Patch) (v : ℕ) → (has_name p.vertices v && not (is_corner (mesh_of p).tris v)) ≡ true → is_corner (mesh_of p).tris v ≡ false
 alone_out p v h = not-true (is_corner (mesh_of p).tris v) (and_parts (has_name p.vertices v) (not (is_corner (mesh_of p).tris v)) h).1
 
-held_has : (inside : Point → Bool) (p : Patch) (v : ℕ) → is_held inside (mesh_of p) v ≡ true → has_name p.vertices v ≡ true
+pub held_has : (inside : Point → Bool) (p : Patch) (v : ℕ) → is_held inside (mesh_of p) v ≡ true → has_name p.vertices v ≡ true
 held_has inside p v on =
     sym (some_found v p.vertices)
     ∙ elim (find (λ (x : SummedVertex). eqb v x.name) p.vertices) as (λ o. option_map_or inside (option_map (λ (x : Vertex). x.point) (option_map (λ x. (placed x).1) o)) false ≡ true → is_some o ≡ true) [

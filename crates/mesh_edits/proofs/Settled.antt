@@ -10,6 +10,7 @@ use Rattle.oemm_lists.specs.Numbers.{among}
 use Rattle.oemm_octree.specs.declared.cells.Cell.{Cell}
 use Rattle.mesh_data.specs.declared.geometry.Tri.{Tri}
 use Rattle.mesh_data.specs.Manifold.{is_corner}
+use Rattle.mesh_data.specs.RingChanges.{IsOriented}
 use Rattle.mesh_data.specs.Triangles.{IsProper, corners, has_corner, tri_cmp, turned}
 use Rattle.triangle_lists.proofs.Filters.{filter-in_order}
 use Rattle.triangle_lists.proofs.Orders.{tri_cmp_total, tri_cmp-IsAntisymmetric}
@@ -71,13 +72,14 @@ tris_on area q on = tris_settled on.cells on.core q on.formed
 
 -- the parts of a fragment with this patch
 pub fragment_settled : (area : List Cell) (q : Patch) (on : IsPatchOn area q) (mesh : Faced) (rim : List ℕ) → mesh.tris ≡ (mesh_of q).tris
-    → ((v : ℕ) → has_name q.vertices v ≡ true → is_corner mesh.tris v ≡ true → is_held mesh v ≡ true)
+    → IsOriented mesh.tris → ((v : ℕ) → has_name q.vertices v ≡ true → is_corner mesh.tris v ≡ true → is_held mesh v ≡ true)
     → ((v : ℕ) → among v rim ≡ list_any (λ (x : Mixed). has_corner v x.tri) q.mixed) → IsFragment q.vertices mesh q.mixed rim q.near area
-fragment_settled area q on mesh rim tris held rim_has =
+fragment_settled area q on mesh rim tris oriented held rim_has =
     let same = patch_on area q on mesh.tris tris in
     record {
       formed = subst (IsPatchOn area) (sym same) on;
       tris = tris ∙ ap (λ (r : Patch). (mesh_of r).tris) (sym same);
+      oriented = oriented;
       held = held;
       rim_has = rim_has;
     }

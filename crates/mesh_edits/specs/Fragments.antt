@@ -7,6 +7,7 @@ use Rattle.oemm_octree.specs.Leaves.{AreBelow, AreTiles}
 use Rattle.oemm_octree.specs.Octree.{area_of}
 use Rattle.mesh_data.specs.declared.geometry.Tri.{Tri}
 use Rattle.mesh_data.specs.Manifold.{is_corner}
+use Rattle.mesh_data.specs.RingChanges.{IsOriented}
 use Rattle.mesh_data.specs.Triangles.{corners, has_corner}
 use Rattle.half_edge.specs.Meshes.{Faced, is_held}
 use Rattle.sheet_data.specs.declared.patches.Mixed.{Mixed}
@@ -44,11 +45,23 @@ patch_by vs ts mixed near = record {
 abbrev pub fragmented : List SummedVertex → Faced → List Mixed → List NearList → List Cell → Fragmented
 fragmented vs mesh mixed near area = record { patch = patch_by vs mesh.tris mixed near; area = area }
 
--- The patch is well formed, the triangles are those of its mesh, those vertices that are in one are held by the
--- half-edges, and the rim has the names of the mixed ones.
+-- The patch is well formed, the triangles are those of its mesh, and oriented, those vertices that are in one are held
+-- by the half-edges, and the rim has the names of the mixed ones.
 pub record IsFragment (vs : List SummedVertex) (mesh : Faced) (mixed : List Mixed) (rim : List ℕ)
     (near : List NearList) (area : List Cell) : Type 0 where
   pub formed : IsPatchOn area (patch_by vs mesh.tris mixed near)
   pub tris : mesh.tris ≡ (mesh_of (patch_by vs mesh.tris mixed near)).tris
+  pub oriented : IsOriented mesh.tris
   pub held : (v : ℕ) → has_name vs v ≡ true → is_corner mesh.tris v ≡ true → is_held mesh v ≡ true
   pub rim_has : (v : ℕ) → among v rim ≡ list_any (λ x. has_corner v x.tri) mixed
+
+-- the same, with the number of the patch's whole triangles
+pub record IsCounted (vs : List SummedVertex) (mesh : Faced) (mixed : List Mixed) (rim : List ℕ)
+    (near : List NearList) (area : List Cell) (whole : ℕ) : Type 0 where
+  pub parts : IsFragment vs mesh mixed rim near area
+  pub count : whole ≡ length (patch_by vs mesh.tris mixed near).whole
+
+-- these can be what edits change of a fragment, whose mixed triangles and core stay
+abbrev pub ArePartsOf : Fragmented → List SummedVertex → Faced → ℕ → Type 0
+ArePartsOf f vs mesh whole =
+    (rim : List ℕ) × IsCounted vs mesh f.patch.mixed rim f.patch.near f.area whole

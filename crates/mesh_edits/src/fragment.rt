@@ -18,7 +18,8 @@ use std::alloc::{AllocError, Global};
 use std::marker::Model;
 
 /// A patch in memory, for edits: its triangles as half-edges, its vertices by their names, and the names of its mixed
-/// triangles, which edits never change, as a set. Contracts see the patch, and the cells of its core.
+/// triangles, which edits never change, as a set, and the number of its whole triangles. Contracts see the patch, and
+/// the cells of its core.
 #[derive(Drop)]
 pub struct Fragment {
     pub(crate) halves: HalfMesh,
@@ -27,16 +28,17 @@ pub struct Fragment {
     pub(crate) rim: NameSet,
     pub(crate) near: NearLists,
     pub(crate) area: Area,
+    pub(crate) whole: u32,
 }
 
 impl Model for Fragment {
-    ghost use Rattle.mesh_edits.specs.Fragments.{Fragmented, IsFragment, fragmented};
+    ghost use Rattle.mesh_edits.specs.Fragments.{Fragmented, IsCounted, fragmented};
 
     ghost Value = { Fragmented };
 
     ghost view = { λ f. fragmented f.vertices f.halves f.mixed f.near f.area };
 
-    ghost invariant = { λ f. IsFragment f.vertices f.halves f.mixed f.rim f.near f.area };
+    ghost invariant = { λ f. IsCounted f.vertices f.halves f.mixed f.rim f.near f.area f.whole };
 }
 
 impl Fragment {
@@ -56,6 +58,7 @@ impl Fragment {
         let halves = halves_of(alloc, &patch)?;
         let vertices = PatchVertices::of(alloc, patch.vertices.slice())?;
         let rim = rim_of(alloc, patch.mixed.slice())?;
+        let whole = patch.whole.slice().len() as u32;
         let Patch { mixed, near, .. } = patch;
         Ok(Fragment {
             halves,
@@ -64,6 +67,7 @@ impl Fragment {
             rim,
             near,
             area,
+            whole,
         })
     }
 

@@ -22,7 +22,7 @@ use sheet_data::{Mixed, Patch, SheetVertex};
 use std::alloc::{AllocError, Global};
 
 /// The names of the vertices.
-fn names_of(alloc: Global, vertices: &[SheetVertex]) -> Result<Vec<Name>, AllocError>
+pub(crate) fn names_of(alloc: Global, vertices: &[SheetVertex]) -> Result<Vec<Name>, AllocError>
     ensures { IfOk result (λ found. found.items ≡ names vertices.now) }
 {
     vertices.iter().map(|x| x.name).collect(alloc)

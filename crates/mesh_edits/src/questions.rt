@@ -1,9 +1,9 @@
 //! What the tables of verdicts ask of a fragment.
 
-ghost use Rattle.std.specs.Prelude.{◌≡◌, ◌&&◌, ◌==◌, length, not};
+ghost use Rattle.std.specs.Prelude.{◌≡◌, ◌≢◌, ◌&&◌, ◌==◌, length, not};
 ghost use Rattle.mesh_data.specs.Manifold.{is_corner};
 ghost use Rattle.mesh_sheets.specs.Assembled.{has_name};
-ghost use Rattle.patch_edits.specs.PatchMesh.{mesh_of};
+ghost use Rattle.patch_edits.specs.PatchMesh.{cost_on, mesh_of};
 ghost use Rattle.mesh_edits.specs.Rounds.{shared_in};
 
 use crate::fragment::Fragment;
@@ -46,6 +46,17 @@ impl Fragment {
             return false;
         }
         !self.halves.has(v)
+    }
+
+    /// What it costs to collapse `u` onto `v`: the squared distances of `v` from the planes of both, each weighted by
+    /// four times the squared area of its triangle (Garland and Heckbert, 1997).
+    pub(crate) fn price(&self, u: Name, v: Name) -> i128
+        requires { u ≢ v }
+        ensures { result ≡ cost_on self.now.patch u v }
+    {
+        let mut quad = self.vertices.quad_of(u);
+        quad.merge(&self.vertices.quad_of(v));
+        quad.value_at(&self.vertices.place_of(v))
     }
 }
 
@@ -116,9 +127,7 @@ impl MeshView for Fragment {
     }
 
     fn cost(&self, u: Name, v: Name) -> i128 {
-        let mut quad = self.vertices.quad_of(u);
-        quad.merge(&self.vertices.quad_of(v));
-        quad.value_at(&self.vertices.place_of(v))
+        self.price(u, v)
     }
 
     fn opposites(&self, a: Name, b: Name) -> Option<(Name, Name)> {

@@ -1,11 +1,13 @@
 //! The vertices of a patch, by their names.
 
-ghost use Rattle.std.specs.Prelude.{◌≡◌, ◌==◌, map, IfOk};
+ghost use Rattle.std.specs.Prelude.{◌≡◌, ◌==◌, ◌+◌, ◌≤◌, filter, map, not, IfOk};
 ghost use Rattle.std.specs.List.{find};
 ghost use Rattle.std.specs.List.Sorted.{IsStrictlyIncreasing};
 ghost use Rattle.std.specs.Option.{option_copied};
+ghost use Rattle.mesh_data.specs.Planes.{added, most_planes};
 ghost use Rattle.mesh_data.specs.Quads.{sums_in};
 ghost use Rattle.mesh_sheets.specs.Assembled.{has_name};
+ghost use Rattle.patch_edits.specs.Edits.{with_changed};
 ghost use Rattle.patch_edits.specs.PatchMesh.{sums_at};
 ghost use Rattle.mesh_edits.specs.Rounds.{place_of};
 
@@ -85,6 +87,43 @@ impl PatchVertices {
             Some(vertex) => vertex.quad,
             None => Quad::zero(),
         }
+    }
+
+    /// Puts the vertex of a name, if it has one, at another point. It takes no memory.
+    pub(crate) fn set_point(&mut self, v: Name, to: Point)
+        ensures { self.new ≡ with_changed v (λ x. record x { point = to }) self.old }
+    {
+        if let Some(vertex) = self.by_name.get_mut(&v) {
+            vertex.point = to;
+        }
+    }
+
+    /// Merges a quadric into that of a name, if it has a vertex.
+    fn merge(&mut self, v: Name, quad: &Quad)
+        requires { (sums_at self.old v).planes + quad.now.planes ≤ most_planes }
+        ensures { self.new ≡ with_changed v (λ x. record x { quad = added x.quad (sums_in quad.now) }) self.old }
+    {
+        if let Some(vertex) = self.by_name.get_mut(&v) {
+            vertex.quad.merge(quad);
+        }
+    }
+
+    /// Takes the vertex of a name away, if it has one.
+    fn remove(&mut self, u: Name)
+        ensures { self.new ≡ filter (λ x. not (x.name == u)) self.old }
+    {
+        self.by_name.remove(&u);
+    }
+
+    /// Takes the vertex of `u` away, whose quadric that of `v` takes over. It takes no memory.
+    pub(crate) fn take_over(&mut self, u: Name, v: Name)
+        requires { (sums_at self.old v).planes + (sums_at self.old u).planes ≤ most_planes }
+        ensures { self.new ≡ with_changed v (λ x. record x { quad = added x.quad (sums_at self.old u) })
+            (filter (λ x. not (x.name == u)) self.old) }
+    {
+        let quad = self.quad_of(u);
+        self.merge(v, &quad);
+        self.remove(u);
     }
 
     /// The vertices.

@@ -6,9 +6,9 @@ use Rattle.mesh_edits.proofs.fragment.Fragment.is_alone.Goals as goal
 pub returns-then-not-has : goal.returns-then-not-has
 returns-then-not-has c =
     let out : has_name c.self.inside.vertices c.args.v ≡ false = let h = c.has.ensures in search rules in
-    not_there c.self.inside c.self.invariant c.args.self.now c.self.view_is c.args.v out
+    not_there c.self.inside c.self.invariant.parts c.args.self.now c.self.view_is c.args.v out
 
 pub returns : goal.returns
 returns c =
     let on : has_name c.self.inside.vertices c.args.v ≡ true = let h = c.has.ensures in search rules in
-    alone_is c.self.inside c.self.invariant c.args.self.now c.self.view_is c.args.v c.has-2.result on c.has-2.ensures.has c.has-2.ensures.corner
+    alone_is c.self.inside c.self.invariant.parts c.args.self.now c.self.view_is c.args.v c.has-2.result on c.has-2.ensures.has c.has-2.ensures.corner

@@ -14,4 +14,4 @@ returns-clause-patch c =
 
 pub returns-clause-formed : goal.returns-clause-formed
 returns-clause-formed c =
-    subst (IsPatchOn c.args.self.now.area) (sym (returns-clause-patch c)) (on_now c.self.inside c.self.invariant c.args.self.now c.self.view_is)
+    subst (IsPatchOn c.args.self.now.area) (sym (returns-clause-patch c)) (on_now c.self.inside c.self.invariant.parts c.args.self.now c.self.view_is)

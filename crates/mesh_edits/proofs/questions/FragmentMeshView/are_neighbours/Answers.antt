@@ -14,7 +14,7 @@ returns-then-is_some c =
     let ahead : c.is_some.result ≡ is_some (apex ts c.args.u c.args.v) = let h = c.apexes-ahead.ensures.ahead in search rules in
     let yes : c.is_some.result ≡ true = search rules in
     let one : c.is_some.result ≡ (is_some (apex ts c.args.u c.args.v) || is_some (apex ts c.args.v c.args.u)) = yes ∙ sym (ap (λ (b : Bool). b || is_some (apex ts c.args.v c.args.u)) (sym ahead ∙ yes)) in
-    one ∙ near_by_apexes ts c.args.u c.args.v apart ∙ ap (λ (us : List Tri). are_neighbours us c.args.u c.args.v) (tris_now c.self.inside c.self.invariant c.args.self.now c.self.view_is)
+    one ∙ near_by_apexes ts c.args.u c.args.v apart ∙ ap (λ (us : List Tri). are_neighbours us c.args.u c.args.v) (tris_now c.self.inside c.self.invariant.parts c.args.self.now c.self.view_is)
 
 pub returns-else-is_some : goal.returns-else-is_some
 returns-else-is_some c =
@@ -24,7 +24,7 @@ returns-else-is_some c =
     let no_one : c.is_some.result ≡ false = search rules in
     let behind : c.is_some-else-is_some.result ≡ is_some (apex ts c.args.v c.args.u) = let h = c.apexes-ahead.ensures.behind in search rules in
     behind ∙ ap (λ (b : Bool). b || is_some (apex ts c.args.v c.args.u)) (sym no_one ∙ ahead)
-    ∙ near_by_apexes ts c.args.u c.args.v apart ∙ ap (λ (us : List Tri). are_neighbours us c.args.u c.args.v) (tris_now c.self.inside c.self.invariant c.args.self.now c.self.view_is)
+    ∙ near_by_apexes ts c.args.u c.args.v apart ∙ ap (λ (us : List Tri). are_neighbours us c.args.u c.args.v) (tris_now c.self.inside c.self.invariant.parts c.args.self.now c.self.view_is)
 
 pub returns-then-is_alone : goal.returns-then-is_alone
 returns-then-is_alone c =

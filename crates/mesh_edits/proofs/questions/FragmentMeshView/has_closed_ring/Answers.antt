@@ -6,7 +6,7 @@ use Rattle.mesh_edits.proofs.questions.FragmentMeshView.has_closed_ring.Goals as
 
 pub returns-then-not-has : goal.returns-then-not-has
 returns-then-not-has c =
-    no_ring_now c.self.inside c.self.invariant c.args.self.now c.self.view_is c.args.v c.requires (let h = c.has.ensures.has in search rules)
+    no_ring_now c.self.inside c.self.invariant.parts c.args.self.now c.self.view_is c.args.v c.requires (let h = c.has.ensures.has in search rules)
 
 twice : (b : Bool) → not (not b) ≡ b
 twice true = refl
@@ -15,4 +15,4 @@ twice false = refl
 pub returns : goal.returns
 returns c =
     ap not c.is_border.ensures ∙ twice (has_closed_ring c.self.inside.halves.tris c.args.v)
-    ∙ ap (λ (ts : List Tri). has_closed_ring ts c.args.v) (tris_now c.self.inside c.self.invariant c.args.self.now c.self.view_is)
+    ∙ ap (λ (ts : List Tri). has_closed_ring ts c.args.v) (tris_now c.self.inside c.self.invariant.parts c.args.self.now c.self.view_is)

@@ -8,4 +8,4 @@ use Rattle.mesh_edits.proofs.questions.FragmentMeshView.opposites.Goals as goal
 pub returns : goal.returns
 returns c =
     c.zip.ensures ∙ (λ j. option_zip (c.apexes-ahead.ensures.ahead j) (c.apexes-ahead.ensures.behind j))
-    ∙ ap (λ (ts : List Tri). opposites ts c.args.a c.args.b) (tris_now c.self.inside c.self.invariant c.args.self.now c.self.view_is)
+    ∙ ap (λ (ts : List Tri). opposites ts c.args.a c.args.b) (tris_now c.self.inside c.self.invariant.parts c.args.self.now c.self.view_is)
