@@ -1,0 +1,4 @@
+pub mod Starts
+pub mod Turns
+pub mod Ends
+pub mod Causes
