@@ -1,0 +1,10 @@
+pub mod Positions
+pub mod Named
+pub mod OneLeaf
+pub mod Looking
+pub mod Steps
+pub mod Clashing
+pub mod Parting
+pub mod Gathering
+pub mod Giving
+pub mod Sound

@@ -1,0 +1,5 @@
+pub mod OctreeBytes
+pub mod Tables
+pub mod Files
+pub mod Kept
+pub mod Exported
