@@ -1,0 +1,4 @@
+pub mod Desks
+pub mod Commits
+pub mod Answered
+pub mod Images
