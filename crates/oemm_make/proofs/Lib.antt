@@ -1,0 +1,11 @@
+pub mod Coordinates
+pub mod Faces
+pub mod Walks
+pub mod Ink
+pub mod Lines
+pub mod Says
+pub mod Texts
+pub mod Ends
+pub mod Lanes
+pub mod HeldLeaves
+pub mod TileLaws
